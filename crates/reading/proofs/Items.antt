@@ -1,0 +1,116 @@
+-- What an item that was read, or refused, says of the input. Assumes nothing.
+use Prim.Native.Nat.{ℕ, _+_, _≤_}
+use mathlib.Core.Path.{_≡_, refl, sym, ap, _∙_}
+use mathlib.Core.Bool.{Bool, true, false, cond}
+use mathlib.Core.List.{List}
+use native.Mathlib.Omega.{arith}
+use borrow.Author.Tests.{le-leb, leb-true}
+use lib.Dec.{leb}
+use lib.ListN.{length}
+use Rattle.reading.specs.Bytes.{be4, padded}
+use Rattle.reading.specs.Script.{Span, Value, number, Item, word, tested}
+use Rattle.reading.specs.Cursor.{Place, Out, got, stop, then, on, fixed, read-opaque, read-item}
+
+-- a refusal is no answer
+pub never : {A B : Type 0} {c a n : ℕ} {x : A} {q : Place} → _≡_ {A = Out A} (stop c a n) (got x q) → B
+never e = let z : _≡_ {A = ℕ} 0 1 = cc in absurd (omega arith)
+
+-- what two readers gave in a row, the first of them gave
+pub record Split {A B : Type 0} (o : Out A) (k : A → Place → Out B) (b : B) (e : Place) : Type 0 where
+  pub value : A
+  pub place : Place
+  pub first : o ≡ got value place
+  pub second : k value place ≡ got b e
+
+pub split : {A B : Type 0} (o : Out A) (k : A → Place → Out B) {b : B} {e : Place} → then o k ≡ got b e → Split o k b e
+split (got a p) k h = record { value = a; place = p; first = refl; second = h }
+split (stop c a n) k h = never h
+
+-- an item of n bytes that was read: it was there
+pub fixed-read : {A : Type 0} (n : ℕ) (a : A) (s : List ℕ) (p : Place) {b : A} {q : Place} → fixed n a s p ≡ got b q
+    → (p .at + n ≤ length s) × (b ≡ a) × (q .at ≡ p .at + n) × (q .steps ≡ p .steps + 1)
+unfolding fixed
+fixed-read {A} n a s p {b} {q} h = go (leb (p .at + n) (length s)) refl h
+  where
+    go : (t : Bool) → leb (p .at + n) (length s) ≡ t → cond t (got a (on n p)) (stop 2 (p .at) (p .steps)) ≡ got b q
+        → (p .at + n ≤ length s) × (b ≡ a) × (q .at ≡ p .at + n) × (q .steps ≡ p .steps + 1)
+    go true t e = (leb-true _ _ t, cc, cc, cc)
+    go false t e = never e
+
+-- whether an item of n bytes is there does not hang on its value
+module _ (s : List ℕ) (p : Place) (n : ℕ) {A B : Type 0} (a : A) (b : B) where
+  pub fixed-as : {x : A} {q : Place} → got x q ≡ fixed n a s p → got b q ≡ fixed n b s p
+  unfolding fixed
+  fixed-as {x} {q} h = go (leb (p .at + n) (length s)) h
+    where
+      go : (t : Bool) → got x q ≡ cond t (got a (on n p)) (stop 2 (p .at) (p .steps)) → got b q ≡ cond t (got b (on n p)) (stop 2 (p .at) (p .steps))
+      go true e = let z : q ≡ on n p = cc in ap (λ (t : Place). got b t) z
+      go false e = never (sym e)
+
+  pub fixed-stops : {c i k : ℕ} → stop c i k ≡ fixed n a s p → stop c i k ≡ fixed n b s p
+  unfolding fixed
+  fixed-stops {c} {i} {k} h = go (leb (p .at + n) (length s)) h
+    where
+      go : (t : Bool) → stop c i k ≡ cond t (got a (on n p)) (stop 2 (p .at) (p .steps)) → stop c i k ≡ cond t (got b (on n p)) (stop 2 (p .at) (p .steps))
+      go true e = never e
+      go false e = cc
+
+-- a word that was read
+pub word-seen : (s : List ℕ) (p : Place) {v : ℕ} {q : Place} → got (number v) q ≡ read-item word s p → (p .at + 4 ≤ length s) × (v ≡ be4 s (p .at)) × (q ≡ on 4 p)
+unfolding read-item
+word-seen s p {v} e =
+    let r = fixed-read 4 (number (be4 s (p .at))) s p (sym e) in
+    let i : number v ≡ number (be4 s (p .at)) = r .1 in
+    (r .0, cc, λ j. record { at = r .2 j; steps = r .3 j })
+
+-- a word that is tested, by the word alone
+module _ (s : List ℕ) (p : Place) (ok : ℕ → Bool) (code : ℕ) where
+  pub tested-cut : {c a n : ℕ} → stop c a n ≡ read-item word s p → stop c a n ≡ read-item (tested ok code) s p
+  unfolding read-item fixed
+  tested-cut {c} {a} {n} e = go (leb (p .at + 4) (length s)) e
+    where
+      go : (t : Bool) → stop c a n ≡ cond t (got (number (be4 s (p .at))) (on 4 p)) (stop 2 (p .at) (p .steps))
+          → stop c a n ≡ cond t (cond (ok (be4 s (p .at))) (got (number (be4 s (p .at))) (on 4 p)) (stop code (p .at) (p .steps))) (stop 2 (p .at) (p .steps))
+      go true h = never h
+      go false h = h
+
+  module _ {v : ℕ} {q : Place} (e : got (number v) q ≡ read-item word s p) where
+    pub tested-got : ok v ≡ true → got (number v) q ≡ read-item (tested ok code) s p
+    unfolding read-item
+    tested-got o =
+        let r = word-seen s p e in
+        let y : ok (be4 s (p .at)) ≡ true = ap ok (sym (r .1)) ∙ o in
+        rw (le-leb (p .at + 4) (length s) (r .0), y, r .2) (ap (λ (n : ℕ). got (number n) (on 4 p)) (r .1))
+
+    pub tested-refused : ok v ≡ false → stop code (p .at) (p .steps) ≡ read-item (tested ok code) s p
+    unfolding read-item
+    tested-refused o =
+        let r = word-seen s p e in
+        let y : ok (be4 s (p .at)) ≡ false = ap ok (sym (r .1)) ∙ o in
+        rw (le-leb (p .at + 4) (length s) (r .0), y)
+
+-- an opaque that was read
+pub record Opaque-read (s : List ℕ) (p : Place) (x : Span) (q : Place) : Type 0 where
+  pub small : x .count ≤ 104857600
+  pub count : be4 s (p .at) ≡ x .count
+  pub fits : p .at + (4 + padded (x .count)) ≤ length s
+  pub start : x .start ≡ p .at + 4
+  pub at : q .at ≡ p .at + (4 + padded (x .count))
+  pub steps : q .steps ≡ p .steps + 1
+
+pub opaque-read : (s : List ℕ) (p : Place) (x : Span) (q : Place) → read-opaque s p ≡ got x q → Opaque-read s p x q
+unfolding read-opaque
+opaque-read s p x q h =
+    let w = split (fixed 4 (be4 s (p .at)) s p) _ h in
+    let f = fixed-read 4 (be4 s (p .at)) s p (w .first) in
+    go (w .value) (w .place) (f .1) (f .2) (leb (w .value) 104857600) refl (w .second)
+  where
+    go : (n : ℕ) (e : Place) → n ≡ be4 s (p .at) → e .at ≡ p .at + 4 → (t : Bool) → leb n 104857600 ≡ t
+        → cond t (fixed {A = Span} (4 + padded n) (record { start = e .at; count = n }) s p) (stop 5 (p .at) (p .steps)) ≡ got x q → Opaque-read s p x q
+    go n e is at true t k =
+        let g = fixed-read {A = Span} (4 + padded n) (record { start = e .at; count = n }) s p k in
+        let c : x .count ≡ n = ap (λ (y : Span). y .count) (g .1) in
+        let b : x .start ≡ e .at = ap (λ (y : Span). y .start) (g .1) in
+        let l : n ≤ 104857600 = leb-true _ _ t in
+        record { small = rw c l; count = sym is ∙ sym c; fits = rw c (g .0); start = b ∙ at; at = rw c (g .2); steps = g .3 }
+    go n e is at false t k = never k

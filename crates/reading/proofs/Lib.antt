@@ -1,0 +1,9 @@
+pub mod Items
+pub mod Opaques
+pub mod Words
+pub mod Values
+pub mod Bounds
+pub mod Stands
+pub mod Complete
+pub mod Sound
+pub mod Exactly

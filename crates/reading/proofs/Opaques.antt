@@ -1,0 +1,79 @@
+-- An opaque by its length word, and a string by its opaque. Assumes nothing.
+use Prim.Native.Nat.{ℕ, _+_, _-_, _≤_, _<_}
+use mathlib.Core.Path.{_≡_, refl, sym, ap, _∙_}
+use mathlib.Core.Bool.{Bool, true, false, cond}
+use mathlib.Core.List.{List}
+use native.Mathlib.Omega.{arith}
+use borrow.Author.Tests.{le-leb, lt-leb}
+use lib.Dec.{leb}
+use lib.ListN.{length}
+use Rattle.reading.specs.Bytes.{be4, padded}
+use Rattle.reading.specs.Utf8.{utf8}
+use Rattle.reading.specs.Script.{Span, Value, number, part, Item, word, opaque, string}
+use Rattle.reading.specs.Cursor.{Place, Out, got, stop, then, on, fixed, max-opaque, bytes, read-opaque, read-item}
+use Rattle.reading.proofs.Items.{never, Split, split, word-seen, Opaque-read, opaque-read}
+
+module _ (s : List ℕ) (p : Place) where
+  pub opaque-cut : {c a n : ℕ} → stop c a n ≡ read-item word s p → stop c a n ≡ read-item opaque s p
+  unfolding read-item
+  opaque-cut {c} {a} {n} e = go (leb (p .at + 4) (length s)) e
+    where
+      go : (b : Bool) → stop c a n ≡ cond b (got (number (be4 s (p .at))) (on 4 p)) (stop 2 (p .at) (p .steps))
+          → stop c a n ≡ then (then (cond b (got (be4 s (p .at)) (on 4 p)) (stop 2 (p .at) (p .steps))) (λ n q. cond (leb n max-opaque) (fixed {A = Span} (4 + padded n) (record { start = q .at; count = n }) s p) (stop 5 (p .at) (p .steps)))) (λ x q. got (part x) q)
+      go true h = never h
+      go false h = cc
+
+  module _ {n : ℕ} {q : Place} (e : got (number n) q ≡ read-item word s p) where
+    pub opaque-long : max-opaque < n → stop 5 (p .at) (p .steps) ≡ read-item opaque s p
+    unfolding read-item
+    opaque-long l = let w = word-seen s p e in simp (le-leb _ _ (w .0), ← w .1, lt-leb _ _ l)
+
+    pub opaque-short : n ≤ max-opaque → length s - q .at < padded n → stop 2 (p .at) (p .steps) ≡ read-item opaque s p
+    unfolding read-item
+    opaque-short l r =
+        let w = word-seen s p e in
+        let a : q .at ≡ p .at + 4 = ap (λ (t : Place). t .at) (w .2) in
+        simp (le-leb _ _ (w .0), ← w .1, le-leb _ _ l, lt-leb (p .at + (4 + padded n)) (length s) (omega arith))
+
+    pub opaque-got : n ≤ max-opaque → padded n ≤ length s - q .at → got (part (record { start = q .at; count = n })) (record { at = q .at + padded n; steps = q .steps }) ≡ read-item opaque s p
+    unfolding read-item
+    opaque-got l r =
+        let w = word-seen s p e in
+        let a : q .at ≡ p .at + 4 = ap (λ (t : Place). t .at) (w .2) in
+        let k : q .steps ≡ p .steps + 1 = ap (λ (t : Place). t .steps) (w .2) in
+        let z : p .at + (4 + padded n) ≡ p .at + 4 + padded n = omega arith in
+        simp (le-leb _ _ (w .0), ← w .1, le-leb _ _ l, le-leb (p .at + 4 + padded n) (length s) (omega arith), a, k, z)
+
+  -- where an opaque lies
+  pub opaque-fits : {x : Span} {q : Place} → got (part x) q ≡ read-item opaque s p → x .start + x .count ≤ length s
+  unfolding read-item
+  opaque-fits {x} {q} e =
+      let w = split (read-opaque s p) _ (sym e) in
+      let r = opaque-read s p (w .value) (w .place) (w .first) in
+      let h : got (part (w .value)) (w .place) ≡ got (part x) q = w .second in
+      let i : w .value ≡ x = cc in
+      rw (← i) (rw (r .start) (omega (arith, r .fits)))
+
+  pub string-cut : {c a n : ℕ} → stop c a n ≡ read-item opaque s p → stop c a n ≡ read-item string s p
+  unfolding read-item
+  string-cut {c} {a} {n} e = go (read-opaque s p) e
+    where
+      go : (o : Out Span) → stop c a n ≡ then o (λ x q. got (part x) q) → stop c a n ≡ then o (λ x q. cond (utf8 (bytes s x)) (got (part x) q) (stop 7 (p .at) (p .steps)))
+      go (got x q) h = never h
+      go (stop c′ a′ n′) h = cc
+
+  module _ {x : Span} {q : Place} (e : got (part x) q ≡ read-item opaque s p) where
+    judged : read-item string s p ≡ cond (utf8 (bytes s x)) (got (part x) q) (stop 7 (p .at) (p .steps))
+    unfolding read-item
+    judged = go (read-opaque s p) e
+      where
+        go : (o : Out Span) → got (part x) q ≡ then o (λ y r. got (part y) r)
+            → then o (λ y r. cond (utf8 (bytes s y)) (got (part y) r) (stop 7 (p .at) (p .steps))) ≡ cond (utf8 (bytes s x)) (got (part x) q) (stop 7 (p .at) (p .steps))
+        go (got y r) h = let i : x ≡ y = cc in let j : q ≡ r = cc in rw (i, j)
+        go (stop c a n) h = never (sym h)
+
+    pub string-got : utf8 (bytes s x) ≡ true → got (part x) q ≡ read-item string s p
+    string-got t = sym (judged ∙ rw t)
+
+    pub string-refused : utf8 (bytes s x) ≡ false → stop 7 (p .at) (p .steps) ≡ read-item string s p
+    string-refused t = sym (judged ∙ rw t)

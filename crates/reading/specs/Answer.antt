@@ -1,0 +1,171 @@
+-- What the calls answer: one datagram, a run of them, the fields of a descriptor, and its payload. Assumes nothing.
+use Prim.Native.Nat.{ℕ, zero, suc, _+_, _*_, _/_}
+use mathlib.Core.Bool.{Bool, true, false, cond}
+use mathlib.Core.List.{List, [], _∷_, _++_}
+use lib.ListN.{length, take, drop, getD}
+use lib.Dec.{eqb, leb}
+use Rattle.reading.specs.Utf8.{_&_}
+use Rattle.reading.specs.Script.{Value, number, integer, octets, address, part, Forest, bare, tree, _⊕_, Found, nothing, give}
+use Rattle.reading.specs.Cursor.{Place, Out, got, stop, Reader, then, follow}
+use Rattle.reading.specs.Layout.{num, oct, Field, Row, only, flows, samples, header, depth-limit, datagram}
+use Rattle.reading.specs.Values.{zeros, Reading, valued, reading}
+
+abbrev pub limit : ℕ
+limit = 16777216
+
+-- the one or the other, as the input is within the limit or beyond it
+abbrev pub limited : {A : Type 0} → List ℕ → A → A → A
+limited s within beyond = cond (leb (length s) limit) within beyond
+
+abbrev pub from : ℕ → Place
+from at = record { at = at; steps = 0 }
+
+-- ---- descriptors
+
+-- the parent of a datagram
+abbrev pub nobody : ℕ
+nobody = 4294967295
+
+-- how many descriptors
+unfoldable pub size : Forest → ℕ
+size bare = 0
+size (tree r inner after) = 1 + size inner + size after
+
+-- the descriptors, six words each, parents first: i is the index of the first, p its parent's
+unfoldable pub rows : (i p : ℕ) → Forest → List ℕ
+rows i p bare = []
+rows i p (tree r inner after) =
+    r .kind ∷ r .format ∷ r .span .start ∷ r .span .count ∷ p ∷ r .depth
+    ∷ rows (i + 1) i inner ++ rows (i + 1 + size inner) p after
+
+-- how many descriptors a store holds
+abbrev pub room : List ℕ → ℕ
+room w = length w / 6
+
+-- ---- one datagram
+
+pub record Header : Type 0 where
+  pub address-type : ℕ
+  pub address : List ℕ
+  pub sub-agent : ℕ
+  pub sequence : ℕ
+  pub uptime : ℕ
+  pub sample-count : ℕ
+
+abbrev pub kind-of : Value → ℕ
+kind-of (number n) = 0
+kind-of (integer z) = 0
+kind-of (octets b) = 0
+kind-of (address t b) = t
+kind-of (part x) = 0
+
+-- from the values of a datagram's fields, of which the first is the version
+unfoldable pub header-of : List Value → Header
+header-of vs = record {
+  address-type = kind-of (getD vs 1 (number 0));
+  address = oct (getD vs 1 (number 0));
+  sub-agent = num (getD vs 2 (number 0));
+  sequence = num (getD vs 3 (number 0));
+  uptime = num (getD vs 4 (number 0));
+  sample-count = num (getD vs 5 (number 0));
+}
+
+-- all zero
+unfoldable pub no-header : Header
+no-header = header-of (zeros header)
+
+pub record Answer : Type 0 where
+  pub code : ℕ
+  pub at : ℕ
+  pub steps : ℕ
+  pub needed : ℕ
+  pub head : Header
+  pub store : List ℕ
+
+-- a refusal: the header is all zero, and the store stays as it was
+abbrev pub refused : (code at steps needed : ℕ) → List ℕ → Answer
+refused c a n k w = record { code = c; at = a; steps = n; needed = k; head = no-header; store = w }
+
+-- the answer to a reading: `head` of its values and its descriptors, if the store has room for them; the words after the last
+-- descriptor stay as they were
+unfoldable pub stored : (head : List Value → Header) → Out Found → List ℕ → Answer
+stored head (got a p) w =
+    cond (leb (size (a .ranges)) (room w))
+    (record {
+      code = 0;
+      at = p .at;
+      steps = p .steps;
+      needed = size (a .ranges);
+      head = head (a .values);
+      store = rows 0 nobody (a .ranges) ++ drop (6 * size (a .ranges)) w;
+    })
+    (refused 9 0 (p .steps) (size (a .ranges)) w)
+stored head (stop c a n) w = refused c a n 0 w
+
+unfoldable pub one : (input store : List ℕ) → Answer
+one s w = limited s (stored header-of (follow datagram s (from 0)) w) (refused 1 0 0 0 w)
+
+-- ---- a run of datagrams
+
+-- what a run makes of a datagram tried at p: `on` reads the rest of the run. Code 2 ends the run, and that datagram has no descriptors
+unfoldable pub tried : Out Found → Place → (Place → Out Found) → Out Found
+tried (got d q) p on = then (on q) (λ f e. got (only (d .ranges ⊕ f .ranges)) e)
+tried (stop c a n) p on = cond (eqb c 2) (got nothing (record { at = p .at; steps = n })) (stop c a n)
+
+-- datagrams up to the end of the input; `fuel` bounds their number
+unfoldable pub datagrams : (fuel : ℕ) → Reader Found
+datagrams zero s p = got nothing p
+datagrams (suc fuel) s p =
+    cond (leb (length s) (p .at))
+    (got nothing p)
+    (tried (follow datagram s p) p (datagrams fuel s))
+
+-- a run has no header: it shows as zero
+unfoldable pub run : (input store : List ℕ) → Answer
+run s w = limited s (stored (λ _. no-header) (datagrams (length s) s (from 0)) w) (refused 1 0 0 0 w)
+
+-- ---- field reading
+
+abbrev pub layout-at : List Row → ℕ → List Field
+layout-at [] f = []
+layout-at (r ∷ rest) f = cond (eqb (r .format) f) (r .layout) (layout-at rest f)
+
+-- the fields of a descriptor of this kind and format: a datagram's header, a sample's fields before its records, a flow record's fields
+unfoldable pub layout-of : (kind format : ℕ) → List Field
+layout-of zero f = header
+layout-of (suc zero) f = layout-at (samples depth-limit) f
+layout-of (suc (suc zero)) f = layout-at (flows (give nothing)) f
+layout-of (suc (suc (suc k))) f = []
+
+pub record Fields : Type 0 where
+  pub code : ℕ
+  pub at : ℕ
+  pub steps : ℕ
+  pub values : List Value
+
+-- an outcome's numbers, with the values beside it
+unfoldable pub answered : Reading → Fields
+answered r = numbered (r .out) (r .values)
+  where
+    numbered : Out Found → List Value → Fields
+    numbered (got a p) vs = record { code = 0; at = p .at; steps = p .steps; values = vs }
+    numbered (stop c a n) vs = record { code = c; at = a; steps = n; values = vs }
+
+-- the fields asked for, of the descriptor that is handed in: by their layout from the start of its range, held to it
+unfoldable pub read : (asked-kind asked-format : ℕ) → (input : List ℕ) → (kind format start extent : ℕ) → Fields
+read ak af s k f start extent = answered (limited s
+    (cond (leb (start + extent) (length s))
+    (cond (eqb k ak & eqb f af)
+    (reading (layout-of ak af) (take (start + extent) s) (from start))
+    (none 11))
+    (none 10))
+    (none 1))
+  where
+    none : ℕ → Reading
+    none code = valued (layout-of ak af) (stop code 0 0)
+
+-- ---- the payload
+
+-- a descriptor's part of the input, and none where codes 1 or 10 would apply
+unfoldable pub payload : (input : List ℕ) → (start extent : ℕ) → List ℕ
+payload s start extent = limited s (cond (leb (start + extent) (length s)) (take extent (drop start s)) []) []

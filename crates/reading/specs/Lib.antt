@@ -1,0 +1,10 @@
+pub mod Bytes
+pub mod Utf8
+pub mod Numbers
+pub mod Script
+pub mod Cursor
+pub mod Grammar
+pub mod Layout
+pub mod Values
+pub mod Answer
+pub mod Paper

@@ -1,0 +1,94 @@
+-- Blocks and addresses: a law for each way out of their methods, at every width. Assumes nothing.
+use mathlib.Core.Path.{_≡_, refl, ap, _∙_, sym}
+use mathlib.Core.Bool.{true, false}
+use mathlib.Core.List.{List, [], _∷_, _++_}
+use Prim.Native.Nat.{ℕ, _+_, _-_, _≤_, _<_}
+use native.Mathlib.Omega.{arith}
+use borrow.Author.Needs.{needs}
+use borrow.Author.Tests.{le-leb, lt-leb}
+use lib.ListN.{length, take, drop, replicate, length-drop, take-append-drop}
+use lib.Seq.{take-at, drop-at, length-take-le}
+use Rattle.reading.specs.Script.{Width, four, six, eight, sixteen, octet-count, Value, octets, nothing, word, block}
+use Rattle.reading.specs.Cursor.{Place, Out, got, stop, fixed, read-item}
+use Rattle.reading.specs.Layout.{addr, bytes}
+use Rattle.reading.specs.Values.{Reading, reading}
+use Rattle.reading.proofs.Items.{tested-cut, tested-got, tested-refused}
+use Rattle.reading.proofs.Values as values
+use Rattle.reading.proofs.Values.{Typed, is-four, is-sixteen, typed, type-word}
+use Rattle.xdr.specs.declared.Cursor.{Cursor}
+use Rattle.xdr.specs.declared.Refusal.{Refusal}
+use Rattle.xdr.specs.declared.Passed.{Passed}
+use Rattle.xdr.specs.declared.Passed.the-variants as passed
+use Rattle.xdr.specs.declared.Word.{Word}
+use Rattle.xdr.specs.declared.Word.the-variants as a-word
+use Rattle.xdr.specs.declared.Block.{Block}
+use Rattle.xdr.specs.declared.Addressed.{Addressed}
+use Rattle.xdr.specs.Shown.{place, Inside, refused, refusal, passed-out, word-out, Is-block, address-shown, no-address}
+use Rattle.xdr.proofs.Laws as laws
+
+pub wide : {n : ℕ} (w : Width) → n ≡ octet-count w → 0 < n
+wide four e = omega arith
+wide six e = omega arith
+wide eight e = omega arith
+wide sixteen e = omega arith
+
+blank : (w : Width) → (octets (take (octet-count w) (replicate 16 0)) ≡ octets (replicate (octet-count w) 0)) × (drop {A = ℕ} (octet-count w) (replicate 16 0) ≡ replicate (16 - octet-count w) 0)
+blank four = (refl, refl)
+blank six = (refl, refl)
+blank eight = (refl, refl)
+blank sixteen = (refl, refl)
+
+module _ {n : ℕ} (w : Width) (s : List ℕ) (c : Cursor) (size : n ≡ octet-count w) {r : Passed} (e : passed-out r nothing ≡ fixed n nothing s (place c)) where
+  pub block-fits : {d : Cursor} → r ≡ passed.Got d → c .at + octet-count w ≤ length s
+  block-fits h = laws.skip-fits s c (octet-count w) (rw size at e) h
+
+  pub block-none : {x : Refusal} → r ≡ passed.Stop x → Is-block w s c (record { passed = passed.Stop x; bytes = replicate 16 0 })
+  unfolding read-item
+  block-none {x} h = record {
+    read = ap (λ (v : Value). record { out = refusal x; values = v ∷ [] }) (blank w .0) ∙ values.item-none s (place c) (block w) (laws.skipped-stop s c (octet-count w) (rw size at e) _ h);
+    rest = blank w .1;
+  }
+
+  pub block-got : {d : Cursor} {b : List ℕ} → r ≡ passed.Got d → b ≡ take (octet-count w) (drop (c .at) s) ++ replicate (16 - octet-count w) 0
+      → Is-block w s c (record { passed = passed.Got d; bytes = b })
+  unfolding read-item
+  block-got {d} {b} h q =
+      let f : c .at + octet-count w ≤ length s = block-fits h in
+      let l : length (take (octet-count w) (drop (c .at) s)) ≡ octet-count w = length-take-le (octet-count w) (drop (c .at) s) (rw length-drop (omega arith)) in
+      let t : take (octet-count w) b ≡ take (octet-count w) (drop (c .at) s) = rw q (take-at (take (octet-count w) (drop (c .at) s)) _ (octet-count w) l) in
+      record {
+        read = values.item-gave s (place c) (block w) (rw t (laws.skipped-got s c (octet-count w) (rw size at e) _ h));
+        rest = rw q (drop-at (take (octet-count w) (drop (c .at) s)) _ (octet-count w) l);
+      }
+
+-- ---- what follows an address's type word
+module _ {w : Width} (s : List ℕ) (c : Cursor) {b : Block} (t : ℕ) (is : Is-block w s c b) (y : Typed w t) where
+  pub bytes-none : {x : Refusal} {a : Addressed} → b .passed ≡ passed.Stop x → a ≡ no-address x → address-shown a ≡ typed s t (place c)
+  bytes-none h e = rw e (values.block-none s (place c) w t y (values.was-refused s (place c) (block w) (rw h at (is .read))))
+
+  pub bytes-got : {d : Cursor} → b .passed ≡ passed.Got d → address-shown (record { passed = passed.Got d; address = record { kind = t; bytes = b .bytes } }) ≡ typed s t (place c)
+  bytes-got {d} h =
+      let e : b .bytes ≡ take (octet-count w) (b .bytes) ++ replicate (16 - octet-count w) 0 = sym (take-append-drop (octet-count w) (b .bytes)) ∙ ap (λ (l : List ℕ). take (octet-count w) (b .bytes) ++ l) (is .rest) in
+      ap (λ (l : List ℕ). values.gave (Rattle.reading.specs.Script.address t l) (place d)) e
+      ∙ values.block-gave s (place c) w t y (values.was-given s (place c) (block w) (rw h at (is .read)))
+
+-- ---- an address by its type word
+module _ (s : List ℕ) (c : Cursor) {w : Word} (e : word-out w ≡ read-item word s (place c)) where
+  pub address-cut : {x : Refusal} {a : Addressed} → w ≡ a-word.Stop x → a ≡ no-address x → address-shown a ≡ reading (addr ∷ []) s (place c)
+  address-cut h q = rw q (values.address-none s (place c) (tested-cut s (place c) _ 4 (rw h at e)))
+
+  pub address-unknown : {v : ℕ} {d : Cursor} {x : Refusal} {a : Addressed} → w ≡ a-word.Got v d → (v ≡ 0 → ⊥) → (v ≡ 1 → ⊥) → (v ≡ 2 → ⊥) → x ≡ refused 4 c → a ≡ no-address x → address-shown a ≡ reading (addr ∷ []) s (place c)
+  address-unknown {v} h a b c′ r q = rw (q, r) (values.address-none s (place c) (tested-refused s (place c) _ 4 (rw h at e) (lt-leb v 2 (omega arith))))
+
+  -- of type 0, and of a type that has bytes
+  pub address-zero : {v : ℕ} {d : Cursor} → w ≡ a-word.Got v d → v ≡ 0 → values.gave (Rattle.reading.specs.Script.address 0 (replicate 16 0)) (place d) ≡ reading (addr ∷ []) s (place c)
+  address-zero {v} {d} h z =
+      let g : w ≡ a-word.Got 0 d = rw z at h in
+      values.untyped s (place d) ∙ values.address-typed s (place c) (tested-got s (place c) (λ t. lib.Dec.leb t 2) 4 (rw g at e) refl)
+
+  pub address-some : {v t : ℕ} {d : Cursor} {a : Reading} → w ≡ a-word.Got v d → v ≡ t → t ≤ 2 → a ≡ typed s t (place d) → a ≡ reading (addr ∷ []) s (place c)
+  address-some {v} {t} {d} h z l q =
+      let g : w ≡ a-word.Got t d = rw z at h in
+      q ∙ values.address-typed s (place c) (tested-got s (place c) _ 4 (rw g at e) (le-leb _ 2 l))
+
+pub ruleset fixes = (wide, block-fits, block-none, block-got, bytes-none, bytes-got, address-cut, address-unknown, address-zero, address-some, is-four, is-sixteen)

@@ -1,0 +1,5 @@
+pub mod Windows
+pub mod Inside
+pub mod Laws
+pub mod Fixed
+pub mod Signed

@@ -1,0 +1,99 @@
+-- What this crate's cursor and answers are in terms of the reading. Assumes nothing.
+use Prim.Native.Nat.{ℕ, zero, suc, _+_, _-_, _≤_}
+use mathlib.Core.Path.{_≡_}
+use mathlib.Core.List.{List, [], _∷_}
+use lib.ListN.{length, take, drop, getD, replicate}
+use Rattle.reading.specs.Script as script
+use Rattle.reading.specs.Script.{octet-count, Value, number, integer, octets, address, Found, bare}
+use Rattle.reading.specs.Cursor.{Place, Out, got, stop}
+use Rattle.reading.specs.Layout.{bytes}
+use Rattle.reading.specs.Values.{Reading, reading}
+use Rattle.xdr.specs.declared.Cursor.{Cursor}
+use Rattle.xdr.specs.declared.Span.{Span}
+use Rattle.xdr.specs.declared.Refusal.{Refusal}
+use Rattle.xdr.specs.declared.Word.{Word}
+use Rattle.xdr.specs.declared.Word.the-variants as word
+use Rattle.xdr.specs.declared.Long.{Long}
+use Rattle.xdr.specs.declared.Long.the-variants as long
+use Rattle.xdr.specs.declared.Int.{Int}
+use Rattle.xdr.specs.declared.Int.the-variants as int
+use Rattle.xdr.specs.declared.Part.{Part}
+use Rattle.xdr.specs.declared.Part.the-variants as part
+use Rattle.xdr.specs.declared.Passed.{Passed}
+use Rattle.xdr.specs.declared.Passed.the-variants as passed
+use Rattle.xdr.specs.declared.Block.{Block}
+use Rattle.xdr.specs.declared.Address.{Address}
+use Rattle.xdr.specs.declared.Addressed.{Addressed}
+use Rattle.xdr.specs.declared.Width.{Width}
+use Rattle.xdr.specs.declared.Width.the-variants.{Four, Six, Eight, Sixteen}
+
+abbrev pub place : Cursor → Place
+place c = record { at = c .at; steps = c .steps }
+
+-- a cursor that a reading can have come to: inside the input, and no more items than bytes
+pub record Inside (s : List ℕ) (c : Cursor) : Type 0 where
+  pub inside : c .at ≤ length s
+  pub counted : c .steps ≤ c .at
+
+abbrev pub refused : ℕ → Cursor → Refusal
+refused code c = record { code = code; at = c .at; steps = c .steps }
+
+abbrev pub behind : ℕ → Cursor → Cursor
+behind n c = record { at = c .at + n; steps = c .steps + 1 }
+
+abbrev pub span : Span → script.Span
+span x = record { start = x .start; count = x .count }
+
+abbrev pub refusal : {A : Type 0} → Refusal → Out A
+refusal r = stop (r .code) (r .at) (r .steps)
+
+abbrev pub word-out : Word → Out Value
+word-out (word.Got v c) = got (number v) (place c)
+word-out (word.Stop r) = refusal r
+
+abbrev pub long-out : Long → Out Value
+long-out (long.Got v c) = got (number v) (place c)
+long-out (long.Stop r) = refusal r
+
+abbrev pub int-out : Int → Out Value
+int-out (int.Got v c) = got (integer v) (place c)
+int-out (int.Stop r) = refusal r
+
+abbrev pub part-out : Part → Out Value
+part-out (part.Got x c) = got (script.part (span x)) (place c)
+part-out (part.Stop r) = refusal r
+
+abbrev pub passed-out : {A : Type 0} → Passed → A → Out A
+passed-out (passed.Got c) a = got a (place c)
+passed-out (passed.Stop r) a = refusal r
+
+-- an outcome with values beside it
+abbrev pub shown : Passed → List Value → Reading
+shown r vs = record { out = passed-out r (record { values = vs; ranges = bare }); values = vs }
+
+abbrev pub width : Width → script.Width
+width Four = script.four
+width Six = script.six
+width Eight = script.eight
+width Sixteen = script.sixteen
+
+-- n bytes of s, one by one, from `at` on, and the rest behind them
+abbrev pub window : ℕ → List ℕ → (at k : ℕ) → List ℕ → List ℕ
+window zero s at k rest = rest
+window (suc n) s at k rest = getD s (at + k) 0 ∷ window n s at (k + 1) rest
+
+abbrev pub octets-at : ℕ → List ℕ → (at : ℕ) → List ℕ → List ℕ
+octets-at zero s at rest = rest
+octets-at (suc n) s at rest = getD s at 0 ∷ window n s at 1 rest
+
+-- a block of this width, read at the cursor; behind its bytes all is zero
+pub record Is-block (w : script.Width) (s : List ℕ) (c : Cursor) (r : Block) : Type 0 where
+  pub read : shown (r .passed) (octets (take (octet-count w) (r .bytes)) ∷ []) ≡ reading (bytes w ∷ []) s (place c)
+  pub rest : drop (octet-count w) (r .bytes) ≡ replicate (16 - octet-count w) 0
+
+abbrev pub address-shown : Addressed → Reading
+address-shown r = shown (r .passed) (address (r .address .kind) (r .address .bytes) ∷ [])
+
+-- a refusal, with an address of all zero
+abbrev pub no-address : Refusal → Addressed
+no-address r = record { passed = passed.Stop r; address = record { kind = 0; bytes = replicate 16 0 } }

@@ -1,0 +1,107 @@
+// The items of RFC 4506 that an sFlow datagram is made of, read by a cursor that is handed over and handed back with each item.
+ghost use mathlib.Core.Path.{_≡_};
+ghost use Prim.Native.Nat.{_+_, _^_, _≤_, _<_};
+ghost use Rattle.xdr.specs.Shown.{refused, behind};
+
+mod addresses;
+mod blocks;
+pub mod load;
+mod opaques;
+mod words;
+
+// Where a reading stands: the next byte, counted from the input's first, and the items read so far.
+pub struct Cursor {
+    pub at: usize,
+    pub steps: usize,
+}
+
+// Why a reading stops: document 01's code, the position, and the items read before it.
+pub struct Refusal {
+    pub code: u32,
+    pub at: usize,
+    pub steps: usize,
+}
+
+// A range of the input.
+pub struct Span {
+    pub start: usize,
+    pub count: usize,
+}
+
+// A u32 with the cursor behind it, or a refusal; the other items answer likewise.
+pub enum Word {
+    Got(u32, Cursor),
+    Stop(Refusal),
+}
+
+pub enum Long {
+    Got(u64, Cursor),
+    Stop(Refusal),
+}
+
+pub enum Int {
+    Got(i32, Cursor),
+    Stop(Refusal),
+}
+
+// Where an opaque or a string has its bytes.
+pub enum Part {
+    Got(Span, Cursor),
+    Stop(Refusal),
+}
+
+// What was read is passed, and its value is not in the answer.
+pub enum Passed {
+    Got(Cursor),
+    Stop(Refusal),
+}
+
+// How many bytes a fixed block has.
+pub enum Width {
+    Four,
+    Six,
+    Eight,
+    Sixteen,
+}
+
+// A fixed block: its bytes, and zero behind them; all zero on a refusal. An enum holds no array, so they stand beside the answer.
+pub struct Block {
+    pub passed: Passed,
+    pub bytes: [u8; 16],
+}
+
+// An address: its type, and sixteen bytes of which type 1 uses the first four; unused ones are zero.
+pub struct Address {
+    pub kind: u32,
+    pub bytes: [u8; 16],
+}
+
+// All zero on a refusal.
+pub struct Addressed {
+    pub passed: Passed,
+    pub address: Address,
+}
+
+impl Cursor {
+    // The refusal of the item at the cursor.
+    pub fn refusal(self, code: u32) -> Refusal
+        ensures { λ r. ⌜ r ≡ refused code self ⌝ }
+    {
+        Refusal {
+            code: code,
+            at: self.at,
+            steps: self.steps,
+        }
+    }
+
+    // The cursor behind an item of n bytes.
+    pub fn past(self, n: usize) -> Cursor
+        requires { ⌜ (self .at + n < 2 ^ 64) × (self .steps ≤ self .at) × (0 < n) ⌝ }
+        ensures { λ r. ⌜ r ≡ behind n self ⌝ }
+    {
+        Cursor {
+            at: self.at + n,
+            steps: self.steps + 1,
+        }
+    }
+}

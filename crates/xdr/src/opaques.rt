@@ -1,0 +1,43 @@
+// Opaques and strings: a length word, that many bytes, and a pad to a multiple of four, which may hold anything.
+ghost use mathlib.Core.Path.{_≡_};
+ghost use Rattle.reading.specs.Script.{opaque, string};
+ghost use Rattle.reading.specs.Cursor.{read-item};
+ghost use Rattle.xdr.specs.Shown.{Inside, place, part-out};
+use crate::Cursor;
+use crate::Part;
+use crate::Span;
+use crate::Word;
+
+const MAX_OPAQUE_SIZE: u32 = 104857600;
+
+impl Cursor {
+    pub fn read_opaque(self, s: &[u8]) -> Part
+        requires { ⌜ Inside (now s) self ⌝ }
+        ensures { λ r. ⌜ part-out r ≡ read-item opaque (now (s .entry)) (place self) ⌝ }
+    {
+        match self.read_u32(s) {
+            Word::Stop(r) => Part::Stop(r),
+            Word::Got(length, d) => {
+                if MAX_OPAQUE_SIZE < length {
+                    return Part::Stop(self.refusal(5));
+                }
+                let start = d.at;
+                let count = length as usize;
+                let padded = count + (4 - count % 4) % 4;
+                if s.len() - start < padded {
+                    return Part::Stop(self.refusal(2));
+                }
+                Part::Got(
+                    Span {
+                        start: start,
+                        count: count,
+                    },
+                    Cursor {
+                        at: start + padded,
+                        steps: d.steps,
+                    },
+                )
+            }
+        }
+    }
+}
