@@ -1,7 +1,8 @@
 pub mod Items
 pub mod Opaques
+pub mod Fields
 pub mod Words
-pub mod Values
+pub mod Addresses
 pub mod Bounds
 pub mod Stands
 pub mod Complete

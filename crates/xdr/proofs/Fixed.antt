@@ -8,13 +8,14 @@ use borrow.Author.Needs.{needs}
 use borrow.Author.Tests.{le-leb, lt-leb}
 use lib.ListN.{length, take, drop, replicate, length-drop, take-append-drop}
 use lib.Seq.{take-at, drop-at, length-take-le}
-use Rattle.reading.specs.Script.{Width, four, six, eight, sixteen, octet-count, Value, octets, nothing, word, block}
+use Rattle.reading.specs.Script.{Width, four, six, eight, sixteen, octet-count, Value, octets, address, nothing, word, block}
 use Rattle.reading.specs.Cursor.{Place, Out, got, stop, fixed, read-item}
 use Rattle.reading.specs.Layout.{addr, bytes}
-use Rattle.reading.specs.Values.{Reading, reading}
+use Rattle.reading.specs.Values.{zeros, Reading, reading}
 use Rattle.reading.proofs.Items.{tested-cut, tested-got, tested-refused}
-use Rattle.reading.proofs.Values as values
-use Rattle.reading.proofs.Values.{Typed, is-four, is-sixteen, typed, type-word}
+use Rattle.reading.proofs.Fields.{address-out, field-out, reads-shown, halts-shown, shown-reads, shown-halts, sole-gives, sole-halts, sole-gave, sole-halted}
+use Rattle.reading.proofs.Addresses as addresses
+use Rattle.reading.proofs.Addresses.{Typed, is-four, is-sixteen}
 use Rattle.xdr.specs.declared.Cursor.{Cursor}
 use Rattle.xdr.specs.declared.Refusal.{Refusal}
 use Rattle.xdr.specs.declared.Passed.{Passed}
@@ -23,7 +24,7 @@ use Rattle.xdr.specs.declared.Word.{Word}
 use Rattle.xdr.specs.declared.Word.the-variants as a-word
 use Rattle.xdr.specs.declared.Block.{Block}
 use Rattle.xdr.specs.declared.Addressed.{Addressed}
-use Rattle.xdr.specs.Shown.{place, Inside, refused, refusal, passed-out, word-out, Is-block, address-shown, no-address}
+use Rattle.xdr.specs.Shown.{place, Inside, refused, refusal, passed-out, word-out, Is-block, address-shown, address-valued, no-address}
 use Rattle.xdr.proofs.Laws as laws
 
 pub wide : {n : ℕ} (w : Width) → n ≡ octet-count w → 0 < n
@@ -43,52 +44,69 @@ module _ {n : ℕ} (w : Width) (s : List ℕ) (c : Cursor) (size : n ≡ octet-c
   block-fits h = laws.skip-fits s c (octet-count w) (rw size at e) h
 
   pub block-none : {x : Refusal} → r ≡ passed.Stop x → Is-block w s c (record { passed = passed.Stop x; bytes = replicate 16 0 })
-  unfolding read-item
+  unfolding read-item field-out zeros
   block-none {x} h = record {
-    read = ap (λ (v : Value). record { out = refusal x; values = v ∷ [] }) (blank w .0) ∙ values.item-none s (place c) (block w) (laws.skipped-stop s c (octet-count w) (rw size at e) _ h);
+    read = ap (λ (v : Value). record { out = refusal x; values = v ∷ [] }) (blank w .0) ∙ halts-shown (bytes w ∷ []) s (place c) (sole-halts (bytes w) s (place c) (sym (laws.skipped-stop s c (octet-count w) (rw size at e) _ h)));
     rest = blank w .1;
   }
 
   pub block-got : {d : Cursor} {b : List ℕ} → r ≡ passed.Got d → b ≡ take (octet-count w) (drop (c .at) s) ++ replicate (16 - octet-count w) 0
       → Is-block w s c (record { passed = passed.Got d; bytes = b })
-  unfolding read-item
+  unfolding read-item field-out
   block-got {d} {b} h q =
       let f : c .at + octet-count w ≤ length s = block-fits h in
       let l : length (take (octet-count w) (drop (c .at) s)) ≡ octet-count w = length-take-le (octet-count w) (drop (c .at) s) (rw length-drop (omega arith)) in
       let t : take (octet-count w) b ≡ take (octet-count w) (drop (c .at) s) = rw q (take-at (take (octet-count w) (drop (c .at) s)) _ (octet-count w) l) in
       record {
-        read = values.item-gave s (place c) (block w) (rw t (laws.skipped-got s c (octet-count w) (rw size at e) _ h));
+        read = reads-shown (bytes w ∷ []) s (place c) (sole-gives (bytes w) s (place c) (sym (rw t (laws.skipped-got s c (octet-count w) (rw size at e) _ h))));
         rest = rw q (drop-at (take (octet-count w) (drop (c .at) s)) _ (octet-count w) l);
       }
 
 -- ---- what follows an address's type word
 module _ {w : Width} (s : List ℕ) (c : Cursor) {b : Block} (t : ℕ) (is : Is-block w s c b) (y : Typed w t) where
-  pub bytes-none : {x : Refusal} {a : Addressed} → b .passed ≡ passed.Stop x → a ≡ no-address x → address-shown a ≡ typed s t (place c)
-  bytes-none h e = rw e (values.block-none s (place c) w t y (values.was-refused s (place c) (block w) (rw h at (is .read))))
+  was-cut : {x : Refusal} → b .passed ≡ passed.Stop x → read-item (block w) s (place c) ≡ refusal x
+  unfolding field-out
+  was-cut g = sole-halted (bytes w) s (place c) (shown-halts (bytes w ∷ []) s (place c) (rw g at (is .read)))
 
-  pub bytes-got : {d : Cursor} → b .passed ≡ passed.Got d → address-shown (record { passed = passed.Got d; address = record { kind = t; bytes = b .bytes } }) ≡ typed s t (place c)
+  was-got : {d : Cursor} → b .passed ≡ passed.Got d → read-item (block w) s (place c) ≡ got (octets (take (octet-count w) (b .bytes))) (place d)
+  unfolding field-out
+  was-got g = sole-gave (bytes w) s (place c) (shown-reads (bytes w ∷ []) s (place c) (rw g at (is .read)))
+
+  pub bytes-none : {x : Refusal} {a : Addressed} → b .passed ≡ passed.Stop x → a ≡ no-address x → address-shown a ≡ address-valued (address-out t s (place c))
+  bytes-none h e = rw (e, addresses.bytes-cut s (place c) w t y (sym (was-cut h)))
+
+  pub bytes-got : {d : Cursor} → b .passed ≡ passed.Got d
+      → address-shown (record { passed = passed.Got d; address = record { kind = t; bytes = b .bytes } }) ≡ address-valued (address-out t s (place c))
   bytes-got {d} h =
-      let e : b .bytes ≡ take (octet-count w) (b .bytes) ++ replicate (16 - octet-count w) 0 = sym (take-append-drop (octet-count w) (b .bytes)) ∙ ap (λ (l : List ℕ). take (octet-count w) (b .bytes) ++ l) (is .rest) in
-      ap (λ (l : List ℕ). values.gave (Rattle.reading.specs.Script.address t l) (place d)) e
-      ∙ values.block-gave s (place c) w t y (values.was-given s (place c) (block w) (rw h at (is .read)))
+      let e : take (octet-count w) (b .bytes) ++ replicate (16 - octet-count w) 0 ≡ b .bytes = ap (λ (l : List ℕ). take (octet-count w) (b .bytes) ++ l) (sym (is .rest)) ∙ take-append-drop (octet-count w) (b .bytes) in
+      rw (addresses.bytes-got s (place c) w t y (sym (was-got h)), e)
 
 -- ---- an address by its type word
-module _ (s : List ℕ) (c : Cursor) {w : Word} (e : word-out w ≡ read-item word s (place c)) where
-  pub address-cut : {x : Refusal} {a : Addressed} → w ≡ a-word.Stop x → a ≡ no-address x → address-shown a ≡ reading (addr ∷ []) s (place c)
-  address-cut h q = rw q (values.address-none s (place c) (tested-cut s (place c) _ 4 (rw h at e)))
+module _ (s : List ℕ) (c : Cursor) where
+  valued-is : (o : Out Value) → field-out addr s (place c) ≡ o → address-valued o ≡ reading (addr ∷ []) s (place c)
+  unfolding zeros
+  valued-is (got v q) e = reads-shown (addr ∷ []) s (place c) (sole-gives addr s (place c) e)
+  valued-is (stop x a n) e = halts-shown (addr ∷ []) s (place c) (sole-halts addr s (place c) e)
 
-  pub address-unknown : {v : ℕ} {d : Cursor} {x : Refusal} {a : Addressed} → w ≡ a-word.Got v d → (v ≡ 0 → ⊥) → (v ≡ 1 → ⊥) → (v ≡ 2 → ⊥) → x ≡ refused 4 c → a ≡ no-address x → address-shown a ≡ reading (addr ∷ []) s (place c)
-  address-unknown {v} h a b c′ r q = rw (q, r) (values.address-none s (place c) (tested-refused s (place c) _ 4 (rw h at e) (lt-leb v 2 (omega arith))))
+  module _ {w : Word} (e : word-out w ≡ read-item word s (place c)) where
+    pub address-cut : {x : Refusal} {a : Addressed} → w ≡ a-word.Stop x → a ≡ no-address x → address-shown a ≡ reading (addr ∷ []) s (place c)
+    address-cut h q = rw q (valued-is _ (addresses.address-cut s (place c) (tested-cut s (place c) _ 4 (rw h at e))))
 
-  -- of type 0, and of a type that has bytes
-  pub address-zero : {v : ℕ} {d : Cursor} → w ≡ a-word.Got v d → v ≡ 0 → values.gave (Rattle.reading.specs.Script.address 0 (replicate 16 0)) (place d) ≡ reading (addr ∷ []) s (place c)
-  address-zero {v} {d} h z =
-      let g : w ≡ a-word.Got 0 d = rw z at h in
-      values.untyped s (place d) ∙ values.address-typed s (place c) (tested-got s (place c) (λ t. lib.Dec.leb t 2) 4 (rw g at e) refl)
+    pub address-unknown : {v : ℕ} {d : Cursor} {x : Refusal} {a : Addressed} → w ≡ a-word.Got v d → (v ≡ 0 → ⊥) → (v ≡ 1 → ⊥) → (v ≡ 2 → ⊥)
+        → x ≡ refused 4 c → a ≡ no-address x → address-shown a ≡ reading (addr ∷ []) s (place c)
+    address-unknown {v} h i j k r q = rw (q, r) (valued-is _ (addresses.address-cut s (place c) (tested-refused s (place c) _ 4 (rw h at e) (lt-leb v 2 (omega arith)))))
 
-  pub address-some : {v t : ℕ} {d : Cursor} {a : Reading} → w ≡ a-word.Got v d → v ≡ t → t ≤ 2 → a ≡ typed s t (place d) → a ≡ reading (addr ∷ []) s (place c)
-  address-some {v} {t} {d} h z l q =
-      let g : w ≡ a-word.Got t d = rw z at h in
-      q ∙ values.address-typed s (place c) (tested-got s (place c) _ 4 (rw g at e) (le-leb _ 2 l))
+    typed : {v t : ℕ} {d : Cursor} → w ≡ a-word.Got v d → v ≡ t → t ≤ 2 → field-out addr s (place c) ≡ address-out t s (place d)
+    typed {v} {t} {d} h z l =
+        let g : w ≡ a-word.Got t d = rw z at h in
+        addresses.address-typed s (place c) (tested-got s (place c) _ 4 (rw g at e) (le-leb t 2 l))
+
+    -- of type 0, and of a type that has bytes
+    pub address-zero : {v : ℕ} {d : Cursor} → w ≡ a-word.Got v d → v ≡ 0 → address-valued (got (address 0 (replicate 16 0)) (place d)) ≡ reading (addr ∷ []) s (place c)
+    unfolding address-out
+    address-zero h z = valued-is _ (typed h z (omega arith))
+
+    pub address-some : {v t : ℕ} {d : Cursor} {a : Reading} → w ≡ a-word.Got v d → v ≡ t → t ≤ 2 → a ≡ address-valued (address-out t s (place d)) → a ≡ reading (addr ∷ []) s (place c)
+    address-some h z l q = q ∙ valued-is _ (typed h z l)
 
 pub ruleset fixes = (wide, block-fits, block-none, block-got, bytes-none, bytes-got, address-cut, address-unknown, address-zero, address-some, is-four, is-sixteen)

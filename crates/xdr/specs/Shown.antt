@@ -94,6 +94,11 @@ pub record Is-block (w : script.Width) (s : List ℕ) (c : Cursor) (r : Block) :
 abbrev pub address-shown : Addressed → Reading
 address-shown r = shown (r .passed) (address (r .address .kind) (r .address .bytes) ∷ [])
 
+-- an address's outcome with the address beside it: all zero on a refusal
+abbrev pub address-valued : Out Value → Reading
+address-valued (got v q) = record { out = got (record { values = v ∷ []; ranges = bare }) q; values = v ∷ [] }
+address-valued (stop c a n) = record { out = stop c a n; values = address 0 (replicate 16 0) ∷ [] }
+
 -- a refusal, with an address of all zero
 abbrev pub no-address : Refusal → Addressed
 no-address r = record { passed = passed.Stop r; address = record { kind = 0; bytes = replicate 16 0 } }

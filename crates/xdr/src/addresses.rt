@@ -2,9 +2,10 @@
 ghost use mathlib.Core.Path.{_≡_};
 ghost use mathlib.Core.List.{[], _∷_};
 ghost use Rattle.reading.specs.Layout.{addr};
-ghost use Rattle.reading.specs.Values.{reading, zero-field};
-ghost use Rattle.reading.proofs.Values.{Typed, typed};
-ghost use Rattle.xdr.specs.Shown.{Inside, place, width, address-shown, no-address};
+ghost use Rattle.reading.specs.Values.{reading};
+ghost use Rattle.reading.proofs.Addresses.{Typed};
+ghost use Rattle.reading.proofs.Fields.{address-out};
+ghost use Rattle.xdr.specs.Shown.{Inside, place, width, address-shown, address-valued, no-address};
 use crate::Address;
 use crate::Addressed;
 use crate::Cursor;
@@ -31,7 +32,7 @@ impl Cursor {
     fn address_of(self, s: &[u8], kind: u32, w: Width) -> Addressed
         requires { ⌜ Inside (now s) self ⌝ }
         requires { ⌜ Typed (width w) kind ⌝ }
-        ensures { λ r. ⌜ address-shown r ≡ typed (now (s .entry)) kind (place self) ⌝ }
+        ensures { λ r. ⌜ address-shown r ≡ address-valued (address-out kind (now (s .entry)) (place self)) ⌝ }
     {
         let block = self.read_fixed(s, w);
         let passed = block.passed;
