@@ -1,3 +1,4 @@
+pub mod Utf8
 pub mod Items
 pub mod Opaques
 pub mod Fields

@@ -1,15 +1,19 @@
 -- What the items' answers say of the reading: a law for each way out of a method, with the facts that the code has there. Assumes nothing.
 use mathlib.Core.Path.{_≡_, refl, sym, ap, _∙_}
+use mathlib.Core.Bool.{Bool, true, false}
 use mathlib.Core.List.{List, [], _∷_}
-use Prim.Native.Nat.{ℕ, _+_, _*_, _-_, _/_, _≤_, _<_}
+use Prim.Native.Nat.{ℕ, _+_, _*_, _-_, _/_, _^_, _≤_, _<_}
 use native.Mathlib.Omega.{arith}
 use lib.IntN.{ℤ}
-use lib.ListN.{length}
+use lib.ListN.{length, take, drop}
+use mir.Syntax.{w64}
+use mir.Val.{Fits}
 use borrow.Author.Needs.{needs}
 use borrow.Author.Tests.{le-leb, lt-leb}
 use Rattle.reading.specs.Bytes.{be4, be8, signed, padded}
-use Rattle.reading.specs.Script.{Value, number, integer, part, Found, nothing, word, long, int, opaque}
-use Rattle.reading.specs.Cursor.{Place, Out, got, stop, fixed, max-opaque, read-item, times, follow}
+use Rattle.reading.specs.Utf8.{utf8}
+use Rattle.reading.specs.Script.{Value, number, integer, part, Found, nothing, word, long, int, opaque, string}
+use Rattle.reading.specs.Cursor.{Place, Out, got, stop, fixed, max-opaque, bytes, read-item, times, follow}
 use Rattle.reading.specs.Layout.{any-word}
 use Rattle.reading.proofs.Items.{fixed-read, fixed-as, fixed-stops}
 use Rattle.reading.proofs.Opaques as opaques
@@ -18,10 +22,13 @@ use Rattle.xdr.specs.declared.Cursor.{Cursor}
 use Rattle.xdr.specs.declared.Refusal.{Refusal}
 use Rattle.xdr.specs.declared.Word.{Word}
 use Rattle.xdr.specs.declared.Word.the-variants as a-word
+use Rattle.xdr.specs.declared.Span.{Span}
+use Rattle.xdr.specs.declared.Part.{Part}
+use Rattle.xdr.specs.declared.Part.the-variants as a-part
 use Rattle.xdr.specs.declared.Passed.{Passed}
 use Rattle.xdr.specs.declared.Passed.the-variants as passed
 use Rattle.xdr.proofs.Inside.{after-item}
-use Rattle.xdr.specs.Shown.{place, Inside, refused, behind, refusal, word-out, passed-out}
+use Rattle.xdr.specs.Shown.{place, Inside, refused, behind, span, refusal, word-out, part-out, passed-out}
 
 -- ---- an item of n bytes
 module _ (s : List ℕ) (c : Cursor) (n : ℕ) where
@@ -105,4 +112,26 @@ module _ (s : List ℕ) (c : Cursor) {w : Word} (e : word-out w ≡ read-item wo
   pub opaque-got : {v : ℕ} {d : Cursor} → w ≡ a-word.Got v d → v ≤ max-opaque → padded v ≤ length s - d .at → got (part (record { start = d .at; count = v })) (record { at = d .at + padded v; steps = d .steps }) ≡ read-item opaque s (place c)
   opaque-got h l t = opaques.opaque-got s (place c) (is-word h) l t
 
-pub ruleset items = (skip-stop, skip-got, skip-fits, word-stop, word-got, long-stop, long-got, int-stop, int-got, run-stop, run-got, word-inside, word-within, opaque-cut, opaque-long, opaque-short, opaque-got, needs)
+-- ---- a string by its opaque
+module _ (s : List ℕ) (c : Cursor) {o : Part} (e : part-out o ≡ read-item opaque s (place c)) where
+  pub string-cut : {x : Refusal} → o ≡ a-part.Stop x → refusal x ≡ read-item string s (place c)
+  string-cut h = opaques.string-cut s (place c) (rw h at e)
+
+  module _ {x : Span} {d : Cursor} (h : o ≡ a-part.Got x d) where
+    pub string-fits : x .start + x .count ≤ length s
+    string-fits = opaques.opaque-fits s (place c) (rw h at e)
+
+    pub string-end : length s < 2 ^ 64 → Fits w64 (x .start + x .count)
+    string-end l = record { fits = omega (arith, string-fits) }
+
+    -- the bytes looked at are the string's
+    judged : {b : Bool} (end : ℕ) → end ≡ x .start + x .count → b ≡ utf8 (take (end - x .start) (drop (x .start) s)) → utf8 (bytes s (span x)) ≡ b
+    judged end z u = let k : end - x .start ≡ x .count = omega arith in sym (rw k at u)
+
+    pub string-got : {b : Bool} {end : ℕ} → end ≡ x .start + x .count → b ≡ utf8 (take (end - x .start) (drop (x .start) s)) → b ≡ true → got (part (span x)) (place d) ≡ read-item string s (place c)
+    string-got {end = end} z u t = opaques.string-got s (place c) (rw h at e) (judged end z u ∙ t)
+
+    pub string-bad : {b : Bool} {end : ℕ} {r : Refusal} → end ≡ x .start + x .count → b ≡ utf8 (take (end - x .start) (drop (x .start) s)) → b ≡ false → r ≡ refused 7 c → refusal r ≡ read-item string s (place c)
+    string-bad {end = end} z u t r = rw r (opaques.string-refused s (place c) (rw h at e) (judged end z u ∙ t))
+
+pub ruleset items = (skip-stop, skip-got, skip-fits, word-stop, word-got, long-stop, long-got, int-stop, int-got, run-stop, run-got, word-inside, word-within, opaque-cut, opaque-long, opaque-short, opaque-got, string-cut, string-fits, string-end, string-got, string-bad, needs)

@@ -2,4 +2,5 @@ pub mod Windows
 pub mod Inside
 pub mod Laws
 pub mod Fixed
+pub mod Rows
 pub mod Signed

@@ -7,6 +7,7 @@ mod addresses;
 mod blocks;
 pub mod load;
 mod opaques;
+pub mod utf8;
 mod words;
 
 // Where a reading stands: the next byte, counted from the input's first, and the items read so far.

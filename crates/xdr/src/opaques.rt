@@ -7,6 +7,7 @@ use crate::Cursor;
 use crate::Part;
 use crate::Span;
 use crate::Word;
+use crate::utf8;
 
 const MAX_OPAQUE_SIZE: u32 = 104857600;
 
@@ -37,6 +38,24 @@ impl Cursor {
                         steps: d.steps,
                     },
                 )
+            }
+        }
+    }
+
+    // An opaque that is UTF-8, which is looked at once payload and pad are known to be there.
+    pub fn read_string(self, s: &[u8]) -> Part
+        requires { ⌜ Inside (now s) self ⌝ }
+        ensures { λ r. ⌜ part-out r ≡ read-item string (now (s .entry)) (place self) ⌝ }
+    {
+        match self.read_opaque(s) {
+            Part::Stop(r) => Part::Stop(r),
+            Part::Got(x, d) => {
+                let start = x.start;
+                let end = start + x.count;
+                if utf8::is_utf8(&s[start..end]) {
+                    return Part::Got(x, d);
+                }
+                Part::Stop(self.refusal(7))
             }
         }
     }

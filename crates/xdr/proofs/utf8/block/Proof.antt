@@ -1,0 +1,34 @@
+-- `xdr::utf8::block` meets its contract. The loop's invariant: all that was looked at is UTF8-1, or not. Assumes nothing.
+use Prim.Native.Nat.{_-_, _≤_}
+use mathlib.Core.Path.{_≡_, sym}
+use native.Mathlib.Omega.{arith}
+use borrow.Author.Needs.{needs}
+use lib.Dec.{leb, leb·zero}
+use lib.ListN.{drop}
+use Rattle.reading.proofs.Utf8.{plain, plain-byte}
+use Rattle.xdr.proofs.utf8.block.Statement.{statement}
+use Rattle.xdr.proofs.utf8.block.Tie as tie
+
+abbrev Inv-loop : tie.InvT-loop
+Inv-loop s at all₀ i₀ all i = (i ≤ 16) × (all ≡ leb i (plain (drop at s)))
+
+abbrev μ-loop : tie.MeasureT-loop
+μ-loop s at all₀ i₀ all i = 16 - i
+
+pub block-spec : {M : Type 1} → statement M
+block-spec =
+    tie.close
+    (tie.spec
+    Inv-loop
+    μ-loop
+    (λ c. (omega arith, rw leb·zero))  -- loop-holds
+    (λ c. search needs)  -- add-among
+    (λ c. search needs)  -- shared-slice-read-among
+    (λ c κs. search needs)  -- among-requires
+    (λ c. search needs)  -- add-i
+    (λ c. search needs)  -- loop-less
+    (λ c.
+    let p = c .before .before .before in
+    (omega arith, plain-byte (p .before .before .args .s .now) (p .before .before .args .at) (p .loop .i) (p .loop .inv .1) (c .among .ensures) (omega arith)))  -- loop-again
+    (λ c. let e : c .before .loop .i ≡ 16 = omega arith in cc)  -- returns
+    )

@@ -1,0 +1,171 @@
+ghost use mathlib.Core.Path.{_≡_};
+ghost use Prim.Native.Nat.{_+_, _*_, _/_, _≤_, _<_};
+ghost use lib.ListN.{length, drop};
+ghost use lib.Dec.{leb};
+ghost use Rattle.reading.specs.Utf8.{among, tail, utf8-2, utf8-3, utf8-4, utf8};
+ghost use Rattle.reading.proofs.Utf8.{plain, width};
+
+// Whether b is one of the numbers from lo to hi.
+fn among(lo: u8, hi: u8, b: u8) -> bool
+    ensures { λ r. ⌜ r ≡ among lo hi b ⌝ }
+{
+    if b < lo {
+        return false;
+    }
+    b <= hi
+}
+
+// UTF8-tail.
+fn tail(b: u8) -> bool
+    ensures { λ r. ⌜ r ≡ tail b ⌝ }
+{
+    among(0x80, 0xbf, b)
+}
+
+// UTF8-2.
+fn two(a: u8, b: u8) -> bool
+    ensures { λ r. ⌜ r ≡ utf8-2 a b ⌝ }
+{
+    among(0xc2, 0xdf, a) & tail(b)
+}
+
+// UTF8-3, a test for each row: its lead byte, then what may follow.
+fn three(a: u8, b: u8, c: u8) -> bool
+    ensures { λ r. ⌜ r ≡ utf8-3 a b c ⌝ }
+{
+    if among(0xe0, 0xe0, a) {
+        return among(0xa0, 0xbf, b) & tail(c);
+    }
+    if among(0xe1, 0xec, a) {
+        return tail(b) & tail(c);
+    }
+    if among(0xed, 0xed, a) {
+        return among(0x80, 0x9f, b) & tail(c);
+    }
+    if among(0xee, 0xef, a) {
+        return tail(b) & tail(c);
+    }
+    false
+}
+
+// UTF8-4, a test for each row.
+fn four(a: u8, b: u8, c: u8, d: u8) -> bool
+    ensures { λ r. ⌜ r ≡ utf8-4 a b c d ⌝ }
+{
+    if among(0xf0, 0xf0, a) {
+        return among(0x90, 0xbf, b) & tail(c) & tail(d);
+    }
+    if among(0xf1, 0xf3, a) {
+        return tail(b) & tail(c) & tail(d);
+    }
+    if among(0xf4, 0xf4, a) {
+        return among(0x80, 0x8f, b) & tail(c) & tail(d);
+    }
+    false
+}
+
+// How many bytes the sequence at `at` has: 0 where none of the table's rows fits.
+fn sequence(s: &[u8], at: usize) -> usize
+    requires { ⌜ at < length (now s) ⌝ }
+    ensures { λ r. ⌜ r ≡ width (drop at (now (s .entry))) ⌝ }
+{
+    let left = s.len() - at;
+    let a = s[at];
+    if among(0x00, 0x7f, a) {
+        return 1;
+    }
+    if left < 2 {
+        return 0;
+    }
+    let b = s[at + 1];
+    if two(a, b) {
+        return 2;
+    }
+    if left < 3 {
+        return 0;
+    }
+    let c = s[at + 2];
+    if three(a, b, c) {
+        return 3;
+    }
+    if left < 4 {
+        return 0;
+    }
+    if four(a, b, c, s[at + 3]) {
+        return 4;
+    }
+    0
+}
+
+// Whether the sixteen bytes at `at` are all UTF8-1: no branch for a byte, so that they are tested at once.
+fn block(s: &[u8], at: usize) -> bool
+    requires { ⌜ at + 16 ≤ length (now s) ⌝ }
+    ensures { λ r. ⌜ r ≡ leb 16 (plain (drop at (now (s .entry)))) ⌝ }
+{
+    let mut all = true;
+    let mut i = 0;
+    while i < 16 {
+        all = all & among(0x00, 0x7f, s[at + i]);
+        i += 1;
+    }
+    all
+}
+
+// Past the blocks of sixteen UTF8-1 at `at`.
+fn past_blocks(s: &[u8], at: usize) -> usize
+    requires { ⌜ at ≤ length (now s) ⌝ }
+    ensures { λ r. ⌜ r ≡ at + plain (drop at (now (s .entry))) / 16 * 16 ⌝ }
+{
+    let mut i = at;
+    while i + 16 <= s.len() {
+        if block(s, i) {
+            i += 16;
+        } else {
+            return i;
+        }
+    }
+    i
+}
+
+// Past the UTF8-1 at `at`, one by one.
+fn past_bytes(s: &[u8], at: usize) -> usize
+    requires { ⌜ at ≤ length (now s) ⌝ }
+    ensures { λ r. ⌜ r ≡ at + plain (drop at (now (s .entry))) ⌝ }
+{
+    let mut i = at;
+    while i < s.len() {
+        if among(0x00, 0x7f, s[i]) {
+            i += 1;
+        } else {
+            return i;
+        }
+    }
+    i
+}
+
+// Past the run of UTF8-1 at `at`.
+fn past_run(s: &[u8], at: usize) -> usize
+    requires { ⌜ at ≤ length (now s) ⌝ }
+    ensures { λ r. ⌜ r ≡ at + plain (drop at (now (s .entry))) ⌝ }
+{
+    past_bytes(s, past_blocks(s, at))
+}
+
+// Whether the bytes are well-formed UTF-8, as RFC 3629's table has it.
+pub fn is_utf8(s: &[u8]) -> bool
+    ensures { λ r. ⌜ r ≡ utf8 (now (s .entry)) ⌝ }
+{
+    let mut at = 0;
+    while at < s.len() {
+        if among(0x00, 0x7f, s[at]) {
+            at = past_run(s, at);
+            continue;
+        }
+        let n = sequence(s, at);
+        if n == 0 {
+            return false;
+        }
+        at += n;
+    }
+    true
+}
