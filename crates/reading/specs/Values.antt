@@ -23,7 +23,7 @@ zero-field addr = address 0 (replicate 16 0)
 zero-field list = part (record { start = 0; count = 0 })
 zero-field segments = part (record { start = 0; count = 0 })
 
-unfoldable pub zeros : List Field → List Value
+abbrev pub zeros : List Field → List Value
 zeros [] = []
 zeros (f ∷ rest) = zero-field f ∷ zeros rest
 

@@ -11,7 +11,7 @@ use lib.Seq.{take-at, drop-at, length-take-le}
 use Rattle.reading.specs.Script.{Width, four, six, eight, sixteen, octet-count, Value, octets, address, nothing, word, block}
 use Rattle.reading.specs.Cursor.{Place, Out, got, stop, fixed, read-item}
 use Rattle.reading.specs.Layout.{addr, bytes}
-use Rattle.reading.specs.Values.{zeros, Reading, reading}
+use Rattle.reading.specs.Values.{Reading, reading}
 use Rattle.reading.proofs.Items.{tested-cut, tested-got, tested-refused}
 use Rattle.reading.proofs.Fields.{address-out, field-out, reads-shown, halts-shown, shown-reads, shown-halts, sole-gives, sole-halts, sole-gave, sole-halted}
 use Rattle.reading.proofs.Addresses as addresses
@@ -24,7 +24,7 @@ use Rattle.xdr.specs.declared.Word.{Word}
 use Rattle.xdr.specs.declared.Word.the-variants as a-word
 use Rattle.xdr.specs.declared.Block.{Block}
 use Rattle.xdr.specs.declared.Addressed.{Addressed}
-use Rattle.xdr.specs.Shown.{place, Inside, refused, refusal, passed-out, word-out, Is-block, address-shown, address-valued, no-address}
+use Rattle.xdr.specs.Shown.{place, Inside, refused, refusal, passed-out, word-out, Reads, Is-block, an-address, address-shown, address-valued, no-address}
 use Rattle.xdr.proofs.Laws as laws
 
 pub wide : {n : ℕ} (w : Width) → n ≡ octet-count w → 0 < n
@@ -44,9 +44,9 @@ module _ {n : ℕ} (w : Width) (s : List ℕ) (c : Cursor) (size : n ≡ octet-c
   block-fits h = laws.skip-fits s c (octet-count w) (rw size at e) h
 
   pub block-none : {x : Refusal} → r ≡ passed.Stop x → Is-block w s c (record { passed = passed.Stop x; bytes = replicate 16 0 })
-  unfolding read-item field-out zeros
+  unfolding read-item field-out
   block-none {x} h = record {
-    read = ap (λ (v : Value). record { out = refusal x; values = v ∷ [] }) (blank w .0) ∙ halts-shown (bytes w ∷ []) s (place c) (sole-halts (bytes w) s (place c) (sym (laws.skipped-stop s c (octet-count w) (rw size at e) _ h)));
+    read = record { is = ap (λ (v : Value). record { out = refusal x; values = v ∷ [] }) (blank w .0) ∙ halts-shown (bytes w ∷ []) s (place c) (sole-halts (bytes w) s (place c) (sym (laws.skipped-stop s c (octet-count w) (rw size at e) _ h))) };
     rest = blank w .1;
   }
 
@@ -58,7 +58,7 @@ module _ {n : ℕ} (w : Width) (s : List ℕ) (c : Cursor) (size : n ≡ octet-c
       let l : length (take (octet-count w) (drop (c .at) s)) ≡ octet-count w = length-take-le (octet-count w) (drop (c .at) s) (rw length-drop (omega arith)) in
       let t : take (octet-count w) b ≡ take (octet-count w) (drop (c .at) s) = rw q (take-at (take (octet-count w) (drop (c .at) s)) _ (octet-count w) l) in
       record {
-        read = reads-shown (bytes w ∷ []) s (place c) (sole-gives (bytes w) s (place c) (sym (rw t (laws.skipped-got s c (octet-count w) (rw size at e) _ h))));
+        read = record { is = reads-shown (bytes w ∷ []) s (place c) (sole-gives (bytes w) s (place c) (sym (rw t (laws.skipped-got s c (octet-count w) (rw size at e) _ h)))) };
         rest = rw q (drop-at (take (octet-count w) (drop (c .at) s)) _ (octet-count w) l);
       }
 
@@ -66,11 +66,11 @@ module _ {n : ℕ} (w : Width) (s : List ℕ) (c : Cursor) (size : n ≡ octet-c
 module _ {w : Width} (s : List ℕ) (c : Cursor) {b : Block} (t : ℕ) (is : Is-block w s c b) (y : Typed w t) where
   was-cut : {x : Refusal} → b .passed ≡ passed.Stop x → read-item (block w) s (place c) ≡ refusal x
   unfolding field-out
-  was-cut g = sole-halted (bytes w) s (place c) (shown-halts (bytes w ∷ []) s (place c) (rw g at (is .read)))
+  was-cut g = sole-halted (bytes w) s (place c) (shown-halts (bytes w ∷ []) s (place c) (rw g at (is .read .is)))
 
   was-got : {d : Cursor} → b .passed ≡ passed.Got d → read-item (block w) s (place c) ≡ got (octets (take (octet-count w) (b .bytes))) (place d)
   unfolding field-out
-  was-got g = sole-gave (bytes w) s (place c) (shown-reads (bytes w ∷ []) s (place c) (rw g at (is .read)))
+  was-got g = sole-gave (bytes w) s (place c) (shown-reads (bytes w ∷ []) s (place c) (rw g at (is .read .is)))
 
   pub bytes-none : {x : Refusal} {a : Addressed} → b .passed ≡ passed.Stop x → a ≡ no-address x → address-shown a ≡ address-valued (address-out t s (place c))
   bytes-none h e = rw (e, addresses.bytes-cut s (place c) w t y (sym (was-cut h)))
@@ -84,17 +84,16 @@ module _ {w : Width} (s : List ℕ) (c : Cursor) {b : Block} (t : ℕ) (is : Is-
 -- ---- an address by its type word
 module _ (s : List ℕ) (c : Cursor) where
   valued-is : (o : Out Value) → field-out addr s (place c) ≡ o → address-valued o ≡ reading (addr ∷ []) s (place c)
-  unfolding zeros
   valued-is (got v q) e = reads-shown (addr ∷ []) s (place c) (sole-gives addr s (place c) e)
   valued-is (stop x a n) e = halts-shown (addr ∷ []) s (place c) (sole-halts addr s (place c) e)
 
   module _ {w : Word} (e : word-out w ≡ read-item word s (place c)) where
-    pub address-cut : {x : Refusal} {a : Addressed} → w ≡ a-word.Stop x → a ≡ no-address x → address-shown a ≡ reading (addr ∷ []) s (place c)
-    address-cut h q = rw q (valued-is _ (addresses.address-cut s (place c) (tested-cut s (place c) _ 4 (rw h at e))))
+    pub address-cut : {x : Refusal} {a : Addressed} → w ≡ a-word.Stop x → a ≡ no-address x → Reads (addr ∷ []) s c (a .passed) (an-address (a .address) ∷ [])
+    address-cut h q = rw q (record { is = valued-is _ (addresses.address-cut s (place c) (tested-cut s (place c) _ 4 (rw h at e))) })
 
     pub address-unknown : {v : ℕ} {d : Cursor} {x : Refusal} {a : Addressed} → w ≡ a-word.Got v d → (v ≡ 0 → ⊥) → (v ≡ 1 → ⊥) → (v ≡ 2 → ⊥)
-        → x ≡ refused 4 c → a ≡ no-address x → address-shown a ≡ reading (addr ∷ []) s (place c)
-    address-unknown {v} h i j k r q = rw (q, r) (valued-is _ (addresses.address-cut s (place c) (tested-refused s (place c) _ 4 (rw h at e) (lt-leb v 2 (omega arith)))))
+        → x ≡ refused 4 c → a ≡ no-address x → Reads (addr ∷ []) s c (a .passed) (an-address (a .address) ∷ [])
+    address-unknown {v} h i j k r q = rw (q, r) (record { is = valued-is _ (addresses.address-cut s (place c) (tested-refused s (place c) _ 4 (rw h at e) (lt-leb v 2 (omega arith)))) })
 
     typed : {v t : ℕ} {d : Cursor} → w ≡ a-word.Got v d → v ≡ t → t ≤ 2 → field-out addr s (place c) ≡ address-out t s (place d)
     typed {v} {t} {d} h z l =
@@ -102,11 +101,11 @@ module _ (s : List ℕ) (c : Cursor) where
         addresses.address-typed s (place c) (tested-got s (place c) _ 4 (rw g at e) (le-leb t 2 l))
 
     -- of type 0, and of a type that has bytes
-    pub address-zero : {v : ℕ} {d : Cursor} → w ≡ a-word.Got v d → v ≡ 0 → address-valued (got (address 0 (replicate 16 0)) (place d)) ≡ reading (addr ∷ []) s (place c)
+    pub address-zero : {v : ℕ} {d : Cursor} → w ≡ a-word.Got v d → v ≡ 0 → Reads (addr ∷ []) s c (passed.Got d) (address 0 (replicate 16 0) ∷ [])
     unfolding address-out
-    address-zero h z = valued-is _ (typed h z (omega arith))
+    address-zero h z = record { is = valued-is _ (typed h z (omega arith)) }
 
-    pub address-some : {v t : ℕ} {d : Cursor} {a : Reading} → w ≡ a-word.Got v d → v ≡ t → t ≤ 2 → a ≡ address-valued (address-out t s (place d)) → a ≡ reading (addr ∷ []) s (place c)
-    address-some h z l q = q ∙ valued-is _ (typed h z l)
+    pub address-some : {v t : ℕ} {d : Cursor} {a : Addressed} → w ≡ a-word.Got v d → v ≡ t → t ≤ 2 → address-shown a ≡ address-valued (address-out t s (place d)) → Reads (addr ∷ []) s c (a .passed) (an-address (a .address) ∷ [])
+    address-some h z l q = record { is = q ∙ valued-is _ (typed h z l) }
 
 pub ruleset fixes = (wide, block-fits, block-none, block-got, bytes-none, bytes-got, address-cut, address-unknown, address-zero, address-some, is-four, is-sixteen)

@@ -6,7 +6,7 @@ use lib.ListN.{length, take, drop, getD, replicate}
 use Rattle.reading.specs.Script as script
 use Rattle.reading.specs.Script.{octet-count, Value, number, integer, octets, address, Found, bare}
 use Rattle.reading.specs.Cursor.{Place, Out, got, stop}
-use Rattle.reading.specs.Layout.{bytes}
+use Rattle.reading.specs.Layout.{Field, bytes}
 use Rattle.reading.specs.Values.{Reading, reading}
 use Rattle.xdr.specs.declared.Cursor.{Cursor}
 use Rattle.xdr.specs.declared.Span.{Span}
@@ -86,15 +86,22 @@ abbrev pub octets-at : ℕ → List ℕ → (at : ℕ) → List ℕ → List ℕ
 octets-at zero s at rest = rest
 octets-at (suc n) s at rest = getD s at 0 ∷ window n s at 1 rest
 
+-- the layout l, read at the cursor, answers so: these values and the cursor behind them, or the refusal and all zero
+pub record Reads (l : List Field) (s : List ℕ) (c : Cursor) (p : Passed) (vs : List Value) : Type 0 where
+  pub is : shown p vs ≡ reading l s (place c)
+
 -- a block of this width, read at the cursor; behind its bytes all is zero
 pub record Is-block (w : script.Width) (s : List ℕ) (c : Cursor) (r : Block) : Type 0 where
-  pub read : shown (r .passed) (octets (take (octet-count w) (r .bytes)) ∷ []) ≡ reading (bytes w ∷ []) s (place c)
+  pub read : Reads (bytes w ∷ []) s c (r .passed) (octets (take (octet-count w) (r .bytes)) ∷ [])
   pub rest : drop (octet-count w) (r .bytes) ≡ replicate (16 - octet-count w) 0
 
-abbrev pub address-shown : Addressed → Reading
-address-shown r = shown (r .passed) (address (r .address .kind) (r .address .bytes) ∷ [])
+abbrev pub an-address : Address → Value
+an-address a = address (a .kind) (a .bytes)
 
 -- an address's outcome with the address beside it: all zero on a refusal
+abbrev pub address-shown : Addressed → Reading
+address-shown r = shown (r .passed) (an-address (r .address) ∷ [])
+
 abbrev pub address-valued : Out Value → Reading
 address-valued (got v q) = record { out = got (record { values = v ∷ []; ranges = bare }) q; values = v ∷ [] }
 address-valued (stop c a n) = record { out = stop c a n; values = address 0 (replicate 16 0) ∷ [] }

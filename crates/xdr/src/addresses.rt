@@ -2,10 +2,9 @@
 ghost use mathlib.Core.Path.{_≡_};
 ghost use mathlib.Core.List.{[], _∷_};
 ghost use Rattle.reading.specs.Layout.{addr};
-ghost use Rattle.reading.specs.Values.{reading};
 ghost use Rattle.reading.proofs.Addresses.{Typed};
 ghost use Rattle.reading.proofs.Fields.{address-out};
-ghost use Rattle.xdr.specs.Shown.{Inside, place, width, address-shown, address-valued, no-address};
+ghost use Rattle.xdr.specs.Shown.{Inside, Reads, place, width, an-address, address-shown, address-valued, no-address};
 use crate::Address;
 use crate::Addressed;
 use crate::Cursor;
@@ -51,7 +50,7 @@ impl Cursor {
 
     pub fn parse_address(self, s: &[u8]) -> Addressed
         requires { ⌜ Inside (now s) self ⌝ }
-        ensures { λ r. ⌜ address-shown r ≡ reading (addr ∷ []) (now (s .entry)) (place self) ⌝ }
+        ensures { λ r. ⌜ Reads (addr ∷ []) (now (s .entry)) self (r .passed) (an-address (r .address) ∷ []) ⌝ }
     {
         match self.read_u32(s) {
             Word::Stop(r) => refused_address(r),
