@@ -1,8 +1,10 @@
 // What a switch, a router or a server adds to a sampled packet.
 ghost use mathlib.Core.Path.{_≡_};
 ghost use Rattle.reading.specs.Answer.{layout-of};
-ghost use Rattle.reading.specs.Values.{reading};
-ghost use Rattle.xdr.specs.Shown.{Inside, place, shown};
+ghost use mathlib.Core.List.{_∷_};
+ghost use Rattle.reading.specs.Layout.{addr, words};
+ghost use Rattle.reading.specs.Values.{zeros};
+ghost use Rattle.xdr.specs.Shown.{Inside, Reads};
 ghost use Rattle.flows.specs.Shown.{extended-switch, extended-router};
 use xdr::Address;
 use xdr::Cursor;
@@ -22,7 +24,7 @@ pub struct ExtendedSwitch {
 impl ExtendedSwitch {
     pub fn parse(c: Cursor, s: &[u8]) -> ExtendedSwitch
         requires { ⌜ Inside (now s) c ⌝ }
-        ensures { λ r. ⌜ shown (r .passed) (extended-switch r) ≡ reading (layout-of 2 1001) (now (s .entry)) (place c) ⌝ }
+        ensures { λ r. ⌜ Reads (layout-of 2 1001) (now (s .entry)) c (r .passed) (extended-switch r) ⌝ }
     {
         let at = c.at;
         match c.read_words(s, 4) {
@@ -53,7 +55,9 @@ pub struct ExtendedRouter {
 }
 
 impl ExtendedRouter {
-    fn none(r: Refusal) -> ExtendedRouter {
+    fn none(r: Refusal) -> ExtendedRouter
+        ensures { λ a. ⌜ (a .passed ≡ Passed.Stop r) × (extended-router a ≡ zeros (addr ∷ words 2)) ⌝ }
+    {
         ExtendedRouter {
             passed: Passed::Stop(r),
             next_hop: Address {
@@ -67,7 +71,7 @@ impl ExtendedRouter {
 
     pub fn parse(c: Cursor, s: &[u8]) -> ExtendedRouter
         requires { ⌜ Inside (now s) c ⌝ }
-        ensures { λ r. ⌜ shown (r .passed) (extended-router r) ≡ reading (layout-of 2 1002) (now (s .entry)) (place c) ⌝ }
+        ensures { λ r. ⌜ Reads (layout-of 2 1002) (now (s .entry)) c (r .passed) (extended-router r) ⌝ }
     {
         let hop = c.parse_address(s);
         let passed = hop.passed;

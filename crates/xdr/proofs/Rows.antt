@@ -4,6 +4,7 @@ use mathlib.Core.Path.{_≡_, refl, ap, _∙_, sym}
 use mathlib.Core.List.{List, [], _∷_, _++_}
 use Prim.Native.Nat.{ℕ, _+_, _*_, _^_, _≤_, _<_}
 use native.Mathlib.Omega.{arith}
+use borrow.Author.Needs.{needs}
 use mir.Syntax.{w64}
 use mir.Val.{Fits}
 use lib.ListN.{length, take, drop, take-append-drop}
@@ -43,6 +44,9 @@ module _ (l : List Field) (s : List ℕ) (c : Cursor) where
 
   pub halt-shown : {p : Passed} {vs : List Value} {x : Refusal} → p ≡ passed.Stop x → vs ≡ zeros l → Halt l s c x → Reads l s c p vs
   halt-shown e z h = rw (e, z) (record { is = halts-shown l s (place c) (h .stops) })
+
+  pub halt-now : {vs : List Value} {x : Refusal} → vs ≡ zeros l → Halt l s c x → Reads l s c (passed.Stop x) vs
+  halt-now z h = halt-shown refl z h
 
   row-inside : {vs : List Value} {d : Cursor} → Row l s c vs d → Inside s c → Inside s d
   unfolding follow
@@ -138,7 +142,7 @@ module _ (n : ℕ) (l : List Field) (m : List Field) (s : List ℕ) (c : Cursor)
   pub reads-past : {x : Refusal} {d : Cursor} → p ≡ passed.Got d → Halt m s d x → Halt (l ++ m) s c x
   reads-past h q = past l m s c (shown-row s c l f h) q
 
-module _ (n : ℕ) (l : List Field) (s : List ℕ) (c : Cursor) {p : Passed} {vs : List Value} (f : Reads l s c p vs) where
+module _ (l : List Field) (s : List ℕ) (c : Cursor) {p : Passed} {vs : List Value} (f : Reads l s c p vs) where
   pub reads-inside : {d : Cursor} → p ≡ passed.Got d → Inside s c → Inside s d
   reads-inside h j = row-inside l s c (shown-row s c l f h) j
 
@@ -172,3 +176,10 @@ module _ (n : ℕ) (m : List Field) (s : List ℕ) (c : Cursor) {r : Passed} (f 
 
   pub words-past : {x : Refusal} {d : Cursor} → r ≡ passed.Got d → Halt m s d x → Halt (words n ++ m) s c x
   words-past h q = past (words n) m s c (words-row n s c f i h) q
+
+-- the numbers of a row, one after another
+pub same-numbers : {v w : ℕ} {vs ws : List Value} → v ≡ w → vs ≡ ws → number v ∷ vs ≡ number w ∷ ws
+same-numbers e f = cc
+
+-- a cursor behind what was read is inside; a word of a run that was passed is there
+pub ruleset inner = (same-numbers, word-inside, long-inside, part-inside, reads-inside, words-inside, words-first, words-later, words-fits, needs)
