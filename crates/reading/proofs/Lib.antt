@@ -2,6 +2,10 @@ pub mod Utf8
 pub mod Items
 pub mod Opaques
 pub mod Fields
+pub mod Steps
+pub mod Counts
+pub mod Room
+pub mod Frames
 pub mod Words
 pub mod Addresses
 pub mod Bounds

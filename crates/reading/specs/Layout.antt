@@ -156,23 +156,23 @@ flows inner =
     ∷ (1016 ⟼ words 1 each inner)
     ∷ []
 
--- a flow record at this depth, with `left` levels left: where none is left it may not begin
-unfoldable pub flow : (depth left : ℕ) → Script
-flow d zero = refuse 8
-flow d (suc left) = framed 2 d (opened (flows (pdu d (flow (d + 1) left))))
+-- a flow record, with `left` of the levels to the limit left: where none is left it may not begin
+unfoldable pub flow : (limit left : ℕ) → Script
+flow limit zero = refuse 8
+flow limit (suc left) = framed 2 (limit - left) (opened (flows (pdu (limit - left) (flow limit left))))
 
 -- a counter record, kept raw
 abbrev pub counter : Script
 counter = framed 3 1 (opened [])
 
--- the samples that are opened, with their records at depth 1 and the limit of their depth
+-- the samples that are opened; their own records have depth 1
 unfoldable pub samples : (limit : ℕ) → List Row
 samples limit =
-    (1 ⟼ words 8 each flow 1 limit)  -- sequence, source, rate, pool, drops, input, output, count
+    (1 ⟼ words 8 each flow limit limit)  -- sequence, source, rate, pool, drops, input, output, count
     ∷ (2 ⟼ words 3 each counter)  -- sequence, source, count
-    ∷ (3 ⟼ words 11 each flow 1 limit)  -- as 1, with source, input and output two words each
+    ∷ (3 ⟼ words 11 each flow limit limit)  -- as 1, with source, input and output two words each
     ∷ (4 ⟼ words 4 each counter)  -- as 2, with source two words
-    ∷ (5 ⟼ words 8 each flow 1 limit)  -- sequence, source two words, drops, input, output, reason, count
+    ∷ (5 ⟼ words 8 each flow limit limit)  -- sequence, source two words, drops, input, output, reason, count
     ∷ []
 
 abbrev pub sample : (limit : ℕ) → Script

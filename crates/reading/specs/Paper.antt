@@ -7,7 +7,6 @@ use Rattle.reading.specs.Bytes.{be4}
 use Rattle.reading.specs.Numbers.{known, header-protocols}
 use Rattle.reading.specs.Cursor.{read-opaque, read-item, times, inside, follow}
 use Rattle.reading.specs.Layout.{address-of, run-of, field, fields, last-number, opened, flows, flow, samples, datagram-to}
-use Rattle.reading.specs.Values.{zeros}
 use Rattle.reading.specs.Answer.{size, rows, Header, header-of, no-header, Answer, refused, stored, one, tried, datagrams, run}
 
 -- ---- inputs
@@ -125,5 +124,5 @@ sessions =
     ∷ []
 
 pub the-paper-holds : map (λ (t : Session). t .call (t .input) (t .store)) sessions ≡ map (λ (t : Session). t .answer) sessions
-unfolding sessions be4 known header-protocols follow read-item address-of run-of field fields last-number opened flows flow samples datagram-to size rows zeros header-of no-header stored one tried datagrams run
+unfolding sessions be4 known header-protocols follow read-item address-of run-of field fields last-number opened flows flow samples datagram-to size rows header-of no-header stored one tried datagrams run
 the-paper-holds = refl

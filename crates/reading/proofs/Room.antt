@@ -1,0 +1,142 @@
+-- Demand 3: four bytes for each descriptor. Assumes nothing.
+use Prim.Native.Nat.{ℕ, zero, suc, _+_, _*_, _-_, _≤_}
+use mathlib.Core.Path.{_≡_, refl, sym, ap, _∙_}
+use mathlib.Core.Bool.{Bool, true, false, cond}
+use mathlib.Core.List.{List, [], _∷_, _++_}
+use native.Mathlib.Omega.{arith}
+use lib.Dec.{eqb}
+use lib.ListN.{length, take}
+use lib.Seq.{length-take-le}
+use Rattle.reading.specs.Bytes.{padded}
+use Rattle.reading.specs.Script.{Span, Value, number, Found, nothing, _&&_, word, Script, give, refuse, item, within, repeat}
+use Rattle.reading.specs.Cursor.{Place, Out, got, stop, Reader, then, read-opaque, read-item, times, inside, follow}
+use Rattle.reading.specs.Layout.{num, Field, fields, Row, _⟼_, _⟼_each_, last-number, opened, words, only, ranged, between, framed, pdu, flows, flow, counter, samples, sample, header, datagram-to}
+use Rattle.reading.specs.Answer.{size}
+use Rattle.reading.proofs.Items.{never, Split, split, Opaque-read, opaque-read}
+use Rattle.reading.proofs.Stands.{place}
+use Rattle.reading.proofs.Bounds.{Owes, owes, owes-item}
+use Rattle.reading.proofs.Fields.{fields-out, fields-then}
+use Rattle.reading.proofs.Counts.{size-joined, repeat-is}
+use Rattle.reading.proofs.Frames.{Frame, frame-read, span-length, Pdu, pdu-read}
+
+-- where a reader accepts, it passed four bytes for each descriptor that it found
+abbrev pub Thrifty : Reader Found → Type 0
+Thrifty r = (s : List ℕ) (p : Place) (a : Found) (q : Place) → p .at ≤ length s → r s p ≡ got a q → 4 * size (a .ranges) + p .at ≤ q .at
+
+-- a reader goes forward, and stays inside
+abbrev Steps-on : Reader Found → Type 0
+Steps-on r = (s : List ℕ) (p : Place) (a : Found) (q : Place) → p .at ≤ length s → r s p ≡ got a q → (p .at ≤ q .at) × (q .at ≤ length s)
+
+steps-on : (sc : Script) → Steps-on (follow sc)
+unfolding Owes
+steps-on sc s p a q h e = let o = rw e at (owes sc s p h) in (o .0, o .1)
+
+item-on : (s : List ℕ) (p : Place) (v : Value) (q : Place) → p .at ≤ length s → read-item word s p ≡ got v q → (p .at + 4 ≤ q .at) × (q .at ≤ length s)
+unfolding read-item
+item-on s p v q h e =
+    let r = Rattle.reading.proofs.Items.fixed-read 4 _ s p e in
+    (rw (r .2) (omega arith), rw (r .2) (r .0))
+
+-- two finds in a row, over m
+both : {a : Found} {i q : Place} (g f : Found) (p m : ℕ) → got (g && f) i ≡ got a q → 4 * size (g .ranges) + p ≤ m → 4 * size (f .ranges) + m ≤ i .at → 4 * size (a .ranges) + p ≤ q .at
+both {a} {i} {q} g f p m e h k =
+    let x : g && f ≡ a = cc in
+    let y : i ≡ q = cc in
+    rw (← x, ← y, size-joined) (omega arith)
+
+-- fields go forward
+fields-on : (l : List Field) (s : List ℕ) (p : Place) (vs : List Value) (q : Place) → p .at ≤ length s → fields-out l s p ≡ got vs q → (p .at ≤ q .at) × (q .at ≤ length s)
+unfolding follow
+fields-on l s p vs q h e = steps-on (fields l (λ _. give nothing)) s p nothing q h (fields-then l (λ _. give nothing) s p ∙ rw e)
+
+thrifty-times : (r : Reader Found) → Thrifty r → Steps-on r → (n : ℕ) → Thrifty (times n r)
+unfolding times size
+thrifty-times r t o zero s p a q h e = let k : p ≡ q = cc in let z : nothing ≡ a = cc in rw (← z, k) (omega arith)
+thrifty-times r t o (suc n) s p a q h e =
+    let w = split (r s p) _ e in
+    let i = t s p (w .value) (w .place) h (w .first) in
+    let j = o s p (w .value) (w .place) h (w .first) in
+    let v = split (times n r s (w .place)) _ (w .second) in
+    both (w .value) (v .value) (p .at) (w .place .at) (v .second) i (thrifty-times r t o n s (w .place) (v .value) (v .place) (j .1) (v .first))
+
+-- fields, then nothing that has a range
+thrifty-flat : (l : List Field) → Thrifty (follow (fields l (λ _. give nothing)))
+unfolding follow size
+thrifty-flat l s p a q h e =
+    let i = steps-on (fields l (λ _. give nothing)) s p a q h e in
+    let w = split (fields-out l s p) _ (sym (fields-then l (λ _. give nothing) s p) ∙ e) in
+    let g : got nothing (w .place) ≡ got a q = w .second in
+    let x : nothing ≡ a = cc in
+    rw (← x) (omega arith)
+
+-- fields, then so many as the last of them counts
+thrifty-each : (l : List Field) (body : Script) → Thrifty (follow body) → Thrifty (follow (fields l (λ vs. repeat (last-number vs) body (λ a. give a))))
+thrifty-each l body t s p a q h e =
+    let w = split (fields-out l s p) _ (sym (fields-then l _ s p) ∙ e) in
+    let n = last-number (w .value) in
+    let i = fields-on l s p (w .value) (w .place) h (w .first) in
+    let k = thrifty-times (follow body) t (steps-on body) n s (w .place) a q (i .1) (sym (repeat-is n body s (w .place)) ∙ w .second) in
+    omega arith
+
+-- a row of a table, each row of which is thrifty
+data All : List Row → Type 0 where
+  none : All []
+  more : {r : Row} {rest : List Row} → Thrifty (follow (fields (r .layout) (r .more))) → All rest → All (r ∷ rest)
+
+thrifty-opened : (rows : List Row) → All rows → (f : ℕ) → Thrifty (follow (opened rows f))
+unfolding opened follow size
+thrifty-opened rows none f s p a q h e = let k : p ≡ q = cc in let z : nothing ≡ a = cc in rw (← z, k) (omega arith)
+thrifty-opened rows (more {r} {rest} t ts) f s p a q h e = go (eqb (r .format) f) (thrifty-opened rest ts f s p a q h) e
+  where
+    go : (b : Bool) → (follow (opened rest f) s p ≡ got a q → 4 * size (a .ranges) + p .at ≤ q .at)
+        → follow (cond b (fields (r .layout) (r .more)) (opened rest f)) s p ≡ got a q → 4 * size (a .ranges) + p .at ≤ q .at
+    go true i k = t s p a q h k
+    go false i k = i k
+
+-- ---- frames
+
+thrifty-framed : (kind depth : ℕ) (body : ℕ → Script) → ((f : ℕ) → Thrifty (follow (body f))) → Thrifty (follow (framed kind depth body))
+unfolding size
+thrifty-framed kind depth body t s p a q h e =
+    let f = frame-read kind depth body s p e in
+    let l = span-length f in
+    let i = t (f .format) _ _ (f .inner) (f .last) (rw l (omega arith)) (f .held) in
+    let o = steps-on (body (f .format)) _ _ (f .inner) (f .last) (rw l (omega arith)) (f .held) in
+    rw (f .found) (omega (arith, f .start, f .end))
+
+thrifty-pdu : (depth : ℕ) (body : Script) → Thrifty (follow body) → Thrifty (follow (pdu depth body))
+unfolding size
+thrifty-pdu depth body t s p a q h e =
+    let f = pdu-read depth body s p e in
+    let i = thrifty-times (follow body) t (steps-on body) (f .count) s (f .first) (f .inner) q (rw (f .start) (f .fits)) (f .held) in
+    rw (f .found) (omega (arith, f .start))
+
+thrifty-flows : (inner : Script) → Thrifty (follow inner) → All (flows inner)
+unfolding flows
+thrifty-flows inner t =
+    more (thrifty-flat _) (more (thrifty-flat _) (more (thrifty-flat _) (more (thrifty-flat _) (more (thrifty-flat _)
+    (more (thrifty-flat _) (more (thrifty-flat _) (more (thrifty-flat _) (more (thrifty-flat _) (more (thrifty-flat _)
+    (more (thrifty-flat _) (more (thrifty-flat _) (more (thrifty-flat _) (more (thrifty-flat _) (more (thrifty-flat _)
+    (more (thrifty-flat _) (more (thrifty-flat _) (more (thrifty-flat _) (more (thrifty-flat _)
+    (more (thrifty-each _ inner t) none)))))))))))))))))))
+
+pub thrifty-flow : (limit left : ℕ) → Thrifty (follow (flow limit left))
+unfolding flow follow
+thrifty-flow limit zero = λ s p a q h e. never e
+thrifty-flow limit (suc left) =
+    let inner = pdu (limit - left) (flow limit left) in
+    thrifty-framed 2 (limit - left) (opened (flows inner))
+    (thrifty-opened (flows inner) (thrifty-flows inner (thrifty-pdu (limit - left) (flow limit left) (thrifty-flow limit left))))
+
+pub thrifty-counter : Thrifty (follow counter)
+thrifty-counter = thrifty-framed 3 1 (opened []) (thrifty-opened [] none)
+
+thrifty-samples : (limit : ℕ) → All (samples limit)
+unfolding samples
+thrifty-samples limit =
+    more (thrifty-each _ (flow limit limit) (thrifty-flow limit limit)) (more (thrifty-each _ counter thrifty-counter)
+    (more (thrifty-each _ (flow limit limit) (thrifty-flow limit limit)) (more (thrifty-each _ counter thrifty-counter)
+    (more (thrifty-each _ (flow limit limit) (thrifty-flow limit limit)) none))))
+
+pub thrifty-sample : (limit : ℕ) → Thrifty (follow (sample limit))
+thrifty-sample limit = thrifty-framed 1 0 (opened (samples limit)) (thrifty-opened (samples limit) (thrifty-samples limit))
