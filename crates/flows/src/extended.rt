@@ -1,16 +1,19 @@
 // What a switch, a router or a server adds to a sampled packet.
 ghost use mathlib.Core.Path.{_≡_};
-ghost use Rattle.reading.specs.Answer.{layout-of};
-ghost use mathlib.Core.List.{_∷_};
-ghost use Rattle.reading.specs.Layout.{addr, words};
+ghost use mathlib.Core.List.{[], _∷_, _++_};
+ghost use Rattle.reading.specs.Layout.{addr, list, segments, str, words};
 ghost use Rattle.reading.specs.Values.{zeros};
+ghost use Rattle.reading.specs.Answer.{layout-of};
 ghost use Rattle.xdr.specs.Shown.{Inside, Reads};
-ghost use Rattle.flows.specs.Shown.{extended-switch, extended-router};
+ghost use Rattle.flows.specs.Chain.{Within, Then};
+ghost use Rattle.flows.specs.Shown.{extended-switch, extended-router, route, extended-gateway, extended-user, extended-url, extended-nat, extended-vlan-tunnel};
+use crate::next;
+use crate::next::Kind;
 use xdr::Address;
 use xdr::Cursor;
 use xdr::Passed;
 use xdr::Refusal;
-use xdr::load;
+use xdr::Span;
 
 // Format 1001: the VLANs and priorities of a switched packet.
 pub struct ExtendedSwitch {
@@ -26,8 +29,10 @@ impl ExtendedSwitch {
         requires { ⌜ Inside (now s) c ⌝ }
         ensures { λ r. ⌜ Reads (layout-of 2 1001) (now (s .entry)) c (r .passed) (extended-switch r) ⌝ }
     {
-        let at = c.at;
-        match c.read_words(s, 4) {
+        let row = next::words(Passed::Got(c), s, 4);
+        let passed = row.passed;
+        let words = row.words;
+        match passed {
             Passed::Stop(r) => ExtendedSwitch {
                 passed: Passed::Stop(r),
                 src_vlan: 0,
@@ -37,10 +42,10 @@ impl ExtendedSwitch {
             },
             Passed::Got(d) => ExtendedSwitch {
                 passed: Passed::Got(d),
-                src_vlan: load::be32(s, at),
-                src_priority: load::be32(s, at + 4),
-                dst_vlan: load::be32(s, at + 8),
-                dst_priority: load::be32(s, at + 12),
+                src_vlan: words[0],
+                src_priority: words[1],
+                dst_vlan: words[2],
+                dst_priority: words[3],
             },
         }
     }
@@ -55,41 +60,281 @@ pub struct ExtendedRouter {
 }
 
 impl ExtendedRouter {
-    fn none(r: Refusal) -> ExtendedRouter
-        ensures { λ a. ⌜ (a .passed ≡ Passed.Stop r) × (extended-router a ≡ zeros (addr ∷ words 2)) ⌝ }
+    pub fn parse(c: Cursor, s: &[u8]) -> ExtendedRouter
+        requires { ⌜ Inside (now s) c ⌝ }
+        ensures { λ r. ⌜ Reads (layout-of 2 1002) (now (s .entry)) c (r .passed) (extended-router r) ⌝ }
     {
-        ExtendedRouter {
+        let hop = next::address(Passed::Got(c), s);
+        let passed = hop.passed;
+        let next_hop = hop.address;
+        let row = next::words(passed, s, 2);
+        let passed = row.passed;
+        let masks = row.words;
+        match passed {
+            Passed::Stop(r) => ExtendedRouter {
+                passed: Passed::Stop(r),
+                next_hop: Address {
+                    kind: 0,
+                    bytes: [0u8; 16],
+                },
+                src_mask_len: 0,
+                dst_mask_len: 0,
+            },
+            Passed::Got(d) => ExtendedRouter {
+                passed: Passed::Got(d),
+                next_hop: next_hop,
+                src_mask_len: masks[0],
+                dst_mask_len: masks[1],
+            },
+        }
+    }
+}
+
+// What format 1003 ends with.
+struct Route {
+    passed: Passed,
+    dst_as_path: Span,
+    communities: Span,
+    local_pref: u32,
+}
+
+impl Route {
+    fn parse(p: Passed, s: &[u8]) -> Route
+        requires { ⌜ Within (now s) p ⌝ }
+        ensures { λ r. ⌜ Then (segments ∷ list ∷ words 1) (now (s .entry)) p (r .passed) (route r) ⌝ }
+    {
+        let path = next::range(p, s, Kind::Segments);
+        let passed = path.passed;
+        let dst_as_path = path.span;
+        let marks = next::range(passed, s, Kind::List);
+        let passed = marks.passed;
+        let communities = marks.span;
+        let pref = next::word(passed, s);
+        let passed = pref.passed;
+        let local_pref = pref.value;
+        Route {
+            passed: passed,
+            dst_as_path: dst_as_path,
+            communities: communities,
+            local_pref: local_pref,
+        }
+    }
+}
+
+// Format 1003: the BGP route of a packet. `dst_as_path` is where the first segment begins, and how many there are.
+pub struct ExtendedGateway {
+    pub passed: Passed,
+    pub next_hop: Address,
+    pub as_number: u32,
+    pub src_as: u32,
+    pub src_peer_as: u32,
+    pub dst_as_path: Span,
+    pub communities: Span,
+    pub local_pref: u32,
+}
+
+impl ExtendedGateway {
+    fn none(r: Refusal) -> ExtendedGateway
+        ensures { λ a. ⌜ (a .passed ≡ Passed.Stop r) × (extended-gateway a ≡ zeros (addr ∷ words 3 ++ segments ∷ list ∷ words 1)) ⌝ }
+    {
+        ExtendedGateway {
             passed: Passed::Stop(r),
             next_hop: Address {
                 kind: 0,
                 bytes: [0u8; 16],
             },
-            src_mask_len: 0,
-            dst_mask_len: 0,
+            as_number: 0,
+            src_as: 0,
+            src_peer_as: 0,
+            dst_as_path: Span { start: 0, count: 0 },
+            communities: Span { start: 0, count: 0 },
+            local_pref: 0,
         }
     }
 
-    pub fn parse(c: Cursor, s: &[u8]) -> ExtendedRouter
+    pub fn parse(c: Cursor, s: &[u8]) -> ExtendedGateway
         requires { ⌜ Inside (now s) c ⌝ }
-        ensures { λ r. ⌜ Reads (layout-of 2 1002) (now (s .entry)) c (r .passed) (extended-router r) ⌝ }
+        ensures { λ r. ⌜ Reads (layout-of 2 1003) (now (s .entry)) c (r .passed) (extended-gateway r) ⌝ }
     {
-        let hop = c.parse_address(s);
+        let hop = next::address(Passed::Got(c), s);
         let passed = hop.passed;
         let next_hop = hop.address;
+        let row = next::words(passed, s, 3);
+        let passed = row.passed;
+        let numbers = row.words;
+        let route = Route::parse(passed, s);
+        let passed = route.passed;
+        let dst_as_path = route.dst_as_path;
+        let communities = route.communities;
+        let local_pref = route.local_pref;
         match passed {
-            Passed::Stop(r) => ExtendedRouter::none(r),
-            Passed::Got(d) => {
-                let at = d.at;
-                match d.read_words(s, 2) {
-                    Passed::Stop(r) => ExtendedRouter::none(r),
-                    Passed::Got(e) => ExtendedRouter {
-                        passed: Passed::Got(e),
-                        next_hop: next_hop,
-                        src_mask_len: load::be32(s, at),
-                        dst_mask_len: load::be32(s, at + 4),
-                    },
-                }
-            }
+            Passed::Stop(r) => ExtendedGateway::none(r),
+            Passed::Got(d) => ExtendedGateway {
+                passed: Passed::Got(d),
+                next_hop: next_hop,
+                as_number: numbers[0],
+                src_as: numbers[1],
+                src_peer_as: numbers[2],
+                dst_as_path: dst_as_path,
+                communities: communities,
+                local_pref: local_pref,
+            },
+        }
+    }
+}
+
+// Format 1004: the users at both ends of a packet.
+pub struct ExtendedUser {
+    pub passed: Passed,
+    pub src_charset: u32,
+    pub src_user: Span,
+    pub dst_charset: u32,
+    pub dst_user: Span,
+}
+
+impl ExtendedUser {
+    fn none(r: Refusal) -> ExtendedUser
+        ensures { λ a. ⌜ (a .passed ≡ Passed.Stop r) × (extended-user a ≡ zeros (words 1 ++ str ∷ words 1 ++ str ∷ [])) ⌝ }
+    {
+        ExtendedUser {
+            passed: Passed::Stop(r),
+            src_charset: 0,
+            src_user: Span { start: 0, count: 0 },
+            dst_charset: 0,
+            dst_user: Span { start: 0, count: 0 },
+        }
+    }
+
+    pub fn parse(c: Cursor, s: &[u8]) -> ExtendedUser
+        requires { ⌜ Inside (now s) c ⌝ }
+        ensures { λ r. ⌜ Reads (layout-of 2 1004) (now (s .entry)) c (r .passed) (extended-user r) ⌝ }
+    {
+        let src = next::word(Passed::Got(c), s);
+        let passed = src.passed;
+        let src_charset = src.value;
+        let src = next::range(passed, s, Kind::Text);
+        let passed = src.passed;
+        let src_user = src.span;
+        let dst = next::word(passed, s);
+        let passed = dst.passed;
+        let dst_charset = dst.value;
+        let dst = next::range(passed, s, Kind::Text);
+        let passed = dst.passed;
+        let dst_user = dst.span;
+        match passed {
+            Passed::Stop(r) => ExtendedUser::none(r),
+            Passed::Got(d) => ExtendedUser {
+                passed: Passed::Got(d),
+                src_charset: src_charset,
+                src_user: src_user,
+                dst_charset: dst_charset,
+                dst_user: dst_user,
+            },
+        }
+    }
+}
+
+// Format 1005: the URL that was asked for.
+pub struct ExtendedUrl {
+    pub passed: Passed,
+    pub direction: u32,
+    pub url: Span,
+    pub host: Span,
+}
+
+impl ExtendedUrl {
+    pub fn parse(c: Cursor, s: &[u8]) -> ExtendedUrl
+        requires { ⌜ Inside (now s) c ⌝ }
+        ensures { λ r. ⌜ Reads (layout-of 2 1005) (now (s .entry)) c (r .passed) (extended-url r) ⌝ }
+    {
+        let way = next::word(Passed::Got(c), s);
+        let passed = way.passed;
+        let direction = way.value;
+        let path = next::range(passed, s, Kind::Text);
+        let passed = path.passed;
+        let url = path.span;
+        let server = next::range(passed, s, Kind::Text);
+        let passed = server.passed;
+        let host = server.span;
+        match passed {
+            Passed::Stop(r) => ExtendedUrl {
+                passed: Passed::Stop(r),
+                direction: 0,
+                url: Span { start: 0, count: 0 },
+                host: Span { start: 0, count: 0 },
+            },
+            Passed::Got(d) => ExtendedUrl {
+                passed: Passed::Got(d),
+                direction: direction,
+                url: url,
+                host: host,
+            },
+        }
+    }
+}
+
+// Format 1007: the addresses that a packet had before or has after their translation.
+pub struct ExtendedNat {
+    pub passed: Passed,
+    pub src_address: Address,
+    pub dst_address: Address,
+}
+
+impl ExtendedNat {
+    pub fn parse(c: Cursor, s: &[u8]) -> ExtendedNat
+        requires { ⌜ Inside (now s) c ⌝ }
+        ensures { λ r. ⌜ Reads (layout-of 2 1007) (now (s .entry)) c (r .passed) (extended-nat r) ⌝ }
+    {
+        let src = next::address(Passed::Got(c), s);
+        let passed = src.passed;
+        let src_address = src.address;
+        let dst = next::address(passed, s);
+        let passed = dst.passed;
+        let dst_address = dst.address;
+        match passed {
+            Passed::Stop(r) => ExtendedNat {
+                passed: Passed::Stop(r),
+                src_address: Address {
+                    kind: 0,
+                    bytes: [0u8; 16],
+                },
+                dst_address: Address {
+                    kind: 0,
+                    bytes: [0u8; 16],
+                },
+            },
+            Passed::Got(d) => ExtendedNat {
+                passed: Passed::Got(d),
+                src_address: src_address,
+                dst_address: dst_address,
+            },
+        }
+    }
+}
+
+// Format 1012: the VLAN tags that a packet was stripped of.
+pub struct ExtendedVlanTunnel {
+    pub passed: Passed,
+    pub stack: Span,
+}
+
+impl ExtendedVlanTunnel {
+    pub fn parse(c: Cursor, s: &[u8]) -> ExtendedVlanTunnel
+        requires { ⌜ Inside (now s) c ⌝ }
+        ensures { λ r. ⌜ Reads (layout-of 2 1012) (now (s .entry)) c (r .passed) (extended-vlan-tunnel r) ⌝ }
+    {
+        let tags = next::range(Passed::Got(c), s, Kind::List);
+        let passed = tags.passed;
+        let stack = tags.span;
+        match passed {
+            Passed::Stop(r) => ExtendedVlanTunnel {
+                passed: Passed::Stop(r),
+                stack: Span { start: 0, count: 0 },
+            },
+            Passed::Got(d) => ExtendedVlanTunnel {
+                passed: Passed::Got(d),
+                stack: stack,
+            },
         }
     }
 }

@@ -1,2 +1,12 @@
-// The flow records of sFlow version 5: a reader for each layout that document 01 opens.
+// The flow records of sFlow version 5: a reader for each layout that document 01 opens; and records, aggregations and PDUs in their
+// cycle, read in a first pass and written as descriptors in a second.
+pub mod data;
 pub mod extended;
+pub mod frames;
+mod lists;
+pub mod mpls;
+pub mod next;
+pub mod put;
+pub mod records;
+pub mod sampled;
+pub mod wireless;

@@ -29,6 +29,10 @@ pub counted-stop : {c a n : ℕ} (k : ℕ) (o : Out Found) → stop c a n ≡ o 
 unfolding counted
 counted-stop k o e = rw (← e)
 
+pub counted-none : {o : Out Found} (k : ℕ) (q : Place) → got nothing q ≡ o → got k q ≡ counted k o
+unfolding counted size
+counted-none k q e = rw (← e) (ap (λ (n : ℕ). got n q) (sym (add-zero k)))
+
 -- ---- one after another
 
 module _ (r : Reader Found) (s : List ℕ) (p : Place) (k : ℕ) where

@@ -6,6 +6,8 @@ pub mod Steps
 pub mod Counts
 pub mod Room
 pub mod Frames
+pub mod Places
+pub mod Stored
 pub mod Words
 pub mod Addresses
 pub mod Bounds

@@ -104,7 +104,7 @@ thrifty-framed kind depth body t s p a q h e =
     let o = steps-on (body (f .format)) _ _ (f .inner) (f .last) (rw l (omega arith)) (f .held) in
     rw (f .found) (omega (arith, f .start, f .end))
 
-thrifty-pdu : (depth : ℕ) (body : Script) → Thrifty (follow body) → Thrifty (follow (pdu depth body))
+pub thrifty-pdu : (depth : ℕ) (body : Script) → Thrifty (follow body) → Thrifty (follow (pdu depth body))
 unfolding size
 thrifty-pdu depth body t s p a q h e =
     let f = pdu-read depth body s p e in

@@ -14,6 +14,7 @@ use Rattle.reading.specs.Cursor.{Place, Out, got, stop, read-item, times, follo
 use Rattle.reading.specs.Layout.{Field, plain, addr, any-word, words, bytes}
 use Rattle.reading.specs.Values.{zeros, alone, Reading, reading}
 use Rattle.reading.proofs.Fields.{field-out, fields-out, fields-then, sole-gives, sole-halts, reads-shown, halts-shown, shown-reads, shown-halts, row-halts, rows-halt, rows-give}
+use Rattle.reading.proofs.Bounds.{Owes, owes}
 use Rattle.reading.proofs.Words.{numbers, run-row, run-cut}
 use Rattle.xdr.specs.declared.Cursor.{Cursor}
 use Rattle.xdr.specs.declared.Refusal.{Refusal}
@@ -52,6 +53,12 @@ module _ (l : List Field) (s : List ℕ) (c : Cursor) where
   unfolding follow
   row-inside {vs} r i = after-script s c i {a = record { values = vs; ranges = bare }} (alone l) (sym (fields-then l _ s (place c) ∙ rw (r .gives)))
 
+  pub row-forward : {vs : List Value} {d : Cursor} → Row l s c vs d → c .at ≤ length s → c .at ≤ d .at
+  unfolding follow Owes
+  row-forward {vs} {d} r i =
+      let e : follow (alone l) s (place c) ≡ got (record { values = vs; ranges = bare }) (place d) = fields-then l _ s (place c) ∙ rw (r .gives) in
+      (rw e at (owes (alone l) s (place c) i)) .0
+
 -- one row behind another: the first gives what stands in front of all the values
 module _ (l m : List Field) (s : List ℕ) (c : Cursor) where
   on : {vs us : List Value} {d e : Cursor} (n : ℕ) → Row l s c vs d → take n us ≡ vs → Row m s d (drop n us) e → Row (l ++ m) s c us e
@@ -80,10 +87,10 @@ module _ (s : List ℕ) (c : Cursor) where
   unfolding field-out
   item-halt i e = record { stops = sole-halts (plain i) s (place c) (sym e) }
 
-  shown-row : {p : Passed} {vs : List Value} {d : Cursor} (l : List Field) → Reads l s c p vs → p ≡ passed.Got d → Row l s c vs d
+  pub shown-row : {p : Passed} {vs : List Value} {d : Cursor} (l : List Field) → Reads l s c p vs → p ≡ passed.Got d → Row l s c vs d
   shown-row l e h = record { gives = shown-reads l s (place c) (rw h at (e .is)) }
 
-  shown-halt : {p : Passed} {vs : List Value} {x : Refusal} (l : List Field) → Reads l s c p vs → p ≡ passed.Stop x → Halt l s c x
+  pub shown-halt : {p : Passed} {vs : List Value} {x : Refusal} (l : List Field) → Reads l s c p vs → p ≡ passed.Stop x → Halt l s c x
   shown-halt l e h = record { stops = shown-halts l s (place c) (rw h at (e .is)) }
 
 -- a word

@@ -1,7 +1,6 @@
-use mathlib.Core.List.{[], _∷_}
-use Rattle.reading.specs.Layout.{addr, words, flows}
+use Rattle.reading.specs.Layout.{flows}
 use Rattle.reading.specs.Answer.{layout-of}
-use Rattle.xdr.proofs.Rows.{inner, row-shown, halt-now, row-end, words-on, words-cut, words-past, reads-on, reads-cut, reads-past}
+use Rattle.flows.proofs.Chain.{steps, rows}
 use Rattle.flows.proofs.extended.ExtendedSwitch.parse.Statement.{statement}
 use Rattle.flows.proofs.extended.ExtendedSwitch.parse.Tie as tie
 
@@ -10,16 +9,13 @@ unfolding layout-of flows
 parse-spec =
     tie.close
     (tie.spec
-    (λ c κs. search inner)  -- read-words-requires extended.rt:30:15
-    (λ c. search inner)  -- enum-known-r extended.rt:31:26
-    (λ c. search inner)  -- enum-known-d extended.rt:38:25
-    (λ c κs. search inner)  -- be32-requires extended.rt:40:27
-    (λ c. search inner)  -- add-be32 extended.rt:41:45
-    (λ c κs. search inner)  -- be32-requires-2 extended.rt:41:31
-    (λ c. search inner)  -- add-be32-2 extended.rt:42:41
-    (λ c κs. search inner)  -- be32-requires-3 extended.rt:42:27
-    (λ c. search inner)  -- add-be32-3 extended.rt:43:45
-    (λ c κs. search inner)  -- be32-requires-4 extended.rt:43:31
-    (λ c. search (halt-now, words-cut 4 [], inner))  -- returns extended.rt:25:5
-    (λ c. search (row-shown, words-on 4 [], row-end, inner) depth 8)  -- returns-2 extended.rt:25:5
+    (λ c κs. search steps)  -- words-requires extended.rt:31:13
+    (λ c. search steps)  -- enum-known-passed extended.rt:35:26
+    (λ c. search steps)  -- enum-known-passed-2 extended.rt:42:25
+    (λ c. search steps)  -- array-read-t14 extended.rt:44:27
+    (λ c. search steps)  -- array-read-t17 extended.rt:45:31
+    (λ c. search steps)  -- array-read-t20 extended.rt:46:27
+    (λ c. search steps)  -- array-read-t23 extended.rt:47:31
+    (λ c. search rows)  -- returns extended.rt:27:5
+    (λ c. search rows)  -- returns-2 extended.rt:27:5
     )

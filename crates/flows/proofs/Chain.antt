@@ -1,0 +1,250 @@
+-- How items read one after another make a layout: a law for each answer of `next`, and one that joins two of them. Assumes nothing.
+use mathlib.Core.Path.{_≡_, refl, ap, _∙_, sym, subst}
+use mathlib.Core.Bool.{Bool, true, false, cond}
+use mathlib.Core.List.{List, [], _∷_, _++_, append-nil}
+use Prim.Native.Nat.{ℕ, zero, suc, _+_, _*_, _≤_, _<_}
+use native.Mathlib.Omega.{arith}
+use borrow.Author.Needs.{needs}
+use borrow.Author.Tests.{eqb-true, eqb-false}
+use lib.Dec.{eqb}
+use lib.ListN.{length, take, drop, getD, set, replicate, take-append-drop, length-set}
+use lib.Seq.{take-take, getD-set-same, getD-set-other}
+use Rattle.reading.specs.Bytes.{be4}
+use Rattle.reading.specs.Script.{Width, six, eight, sixteen, Value, number, octets, part, nothing, Item, word, long, opaque, string}
+use Rattle.reading.specs.Cursor.{Place, Out, got, read-item, times, follow}
+use Rattle.reading.specs.Layout.{Field, plain, mac, any-word, words, bytes}
+use Rattle.reading.specs.Values.{zeros}
+use Rattle.reading.proofs.Fields.{field-out, fields-out, reads-shown, halts-shown, shown-reads, shown-halts, sole-gives, sole-halts, sole-gave, sole-halted, row-halts, rows-halt, rows-give}
+use Rattle.reading.proofs.Words.{numbers-from, numbers, run-row, run-cut}
+use Rattle.xdr.specs.declared.Cursor.{Cursor}
+use Rattle.xdr.specs.declared.Refusal.{Refusal}
+use Rattle.xdr.specs.declared.Passed.{Passed}
+use Rattle.xdr.specs.declared.Passed.the-variants as passed
+use Rattle.xdr.specs.declared.Word.{Word}
+use Rattle.xdr.specs.declared.Word.the-variants as a-word
+use Rattle.xdr.specs.declared.Long.{Long}
+use Rattle.xdr.specs.declared.Long.the-variants as a-long
+use Rattle.xdr.specs.declared.Span.{Span}
+use Rattle.xdr.specs.declared.Part.{Part}
+use Rattle.xdr.specs.declared.Part.the-variants as a-part
+use Rattle.xdr.specs.declared.Block.{Block}
+use Rattle.xdr.specs.Shown.{place, Inside, Reads, Is-block, span, refusal, word-out, long-out, part-out, passed-out}
+use Rattle.xdr.proofs.Inside.{after-item}
+use Rattle.xdr.proofs.Rows.{reads-inside, words-inside}
+use Rattle.flows.specs.declared.lists.Ranged.{Ranged}
+use Rattle.flows.specs.declared.next.Kind.{Kind}
+use Rattle.flows.specs.declared.next.Kind.the-variants as kind
+use Rattle.flows.specs.Chain.{Within, inside, over, Then, goes, halts, stays, loaded-from, loaded, field-of, no-range, range-of}
+
+-- the fields l, read on from p, end so, whatever they give
+pub data Ends (l : List Field) (s : List ℕ) (p q : Passed) : Type 0 where
+  ends : {vs : List Value} → Then l s p q vs → Ends l s p q
+
+joined : {A : Type 0} {l k : List A} (n : ℕ) → take n k ≡ l → l ++ drop n k ≡ k
+joined {A} {l} {k} n e = ap (λ (h : List A). h ++ drop n k) (sym e) ∙ take-append-drop n k
+
+both : {s : List ℕ} {l m : List Field} {p q r : Passed} {vs ws : List Value} → Then l s p q vs → Then m s q r ws → Then (l ++ m) s p r (vs ++ ws)
+both {s} {l} {m} (goes {d} a i) (goes b j) = goes (rows-give l m s (place d) a b) j
+both {s} {l} {m} (goes {d} a i) (halts b) = halts (rows-halt l m s (place d) a b)
+both {s} {l} {m} (halts {d} a) stays = halts (row-halts l m s (place d) a)
+both stays stays = stays
+
+-- ---- where a reading stands
+
+module _ {s : List ℕ} where
+  pub within-start : {c : Cursor} → Inside s c → Within s (passed.Got c)
+  within-start i = inside i
+
+  pub within-got : {p : Passed} {c : Cursor} → Within s p → p ≡ passed.Got c → Inside s c
+  within-got {c = c} w e = go (rw e at w)
+    where
+      go : Within s (passed.Got c) → Inside s c
+      go (inside i) = i
+
+  pub within-then : {l : List Field} {p q : Passed} {vs : List Value} → Then l s p q vs → Within s q
+  within-then (goes e i) = inside i
+  within-then (halts e) = over
+  within-then stays = over
+
+  -- one behind another: the first stands in front of all the fields, and its values in front of all the values
+  module _ {l : List Field} {p q : Passed} {vs : List Value} (t : Then l s p q vs) {k : List Field} (e : take (length l) k ≡ l) {r : Passed} where
+    pub then-on : {us : List Value} → take (length l) us ≡ vs → Then (drop (length l) k) s q r (drop (length l) us) → Then k s p r us
+    then-on {us} f u = rw (← joined (length l) e, ← joined (length l) f) (both t u)
+
+    pub ends-on : Ends (drop (length l) k) s q r → Ends k s p r
+    ends-on (ends u) = rw (← joined (length l) e) (ends (both t u))
+
+  pub then-is : {l : List Field} {p q : Passed} {vs us : List Value} → Then l s p q vs → us ≡ vs → Then l s p q us
+  then-is t e = rw e t
+
+  -- the whole layout, from the cursor on
+  module _ {l : List Field} {c : Cursor} {q : Passed} where
+    pub all-read : {vs : List Value} {d : Cursor} → q ≡ passed.Got d → Then l s (passed.Got c) q vs → Reads l s c (passed.Got d) vs
+    all-read {vs} {d} e t = go (rw e at t)
+      where
+        go : Then l s (passed.Got c) (passed.Got d) vs → Reads l s c (passed.Got d) vs
+        go (goes a i) = record { is = reads-shown l s (place c) a }
+
+    pub all-refused : {z : Passed} {us : List Value} {x : Refusal} → z ≡ passed.Stop x → us ≡ zeros l → q ≡ passed.Stop x → Ends l s (passed.Got c) q → Reads l s c z us
+    all-refused {us = us} {x} i f e (ends {vs} t) = rw (i, f) (go (rw e at t))
+      where
+        go : Then l s (passed.Got c) (passed.Stop x) vs → Reads l s c (passed.Stop x) (zeros l)
+        go (halts a) = record { is = halts-shown l s (place c) a }
+
+-- ---- the items
+
+module _ {l : List Field} {s : List ℕ} {p : Passed} where
+  pub handed-on : {x : Refusal} {vs : List Value} → p ≡ passed.Stop x → Then l s p (passed.Stop x) vs
+  handed-on e = rw e stays
+
+  -- what another reader answers
+  pub then-reads : {c : Cursor} {q : Passed} {vs : List Value} → p ≡ passed.Got c → Inside s c → Reads l s c q vs → Then l s p q vs
+  then-reads {c} {q} {vs} e i r = rw e (go q r)
+    where
+      go : (q : Passed) → Reads l s c q vs → Then l s (passed.Got c) q vs
+      go (passed.Got d) r = goes (shown-reads l s (place c) (r .is)) (reads-inside l s c r refl i)
+      go (passed.Stop x) r = halts (shown-halts l s (place c) (r .is))
+
+-- an item that is a number
+module _ (i : Item) (s : List ℕ) (c : Cursor) where
+  item-goes : {v : Value} {d : Cursor} → Inside s c → got v (place d) ≡ read-item i s (place c) → Then (plain i ∷ []) s (passed.Got c) (passed.Got d) (v ∷ [])
+  unfolding field-out
+  item-goes j e = goes (sole-gives (plain i) s (place c) (sym e)) (after-item s c j i e)
+
+  item-halts : {x : Refusal} {vs : List Value} → refusal x ≡ read-item i s (place c) → Then (plain i ∷ []) s (passed.Got c) (passed.Stop x) vs
+  unfolding field-out
+  item-halts e = halts (sole-halts (plain i) s (place c) (sym e))
+
+module _ (s : List ℕ) {p : Passed} (c : Cursor) (h : p ≡ passed.Got c) {w : Word} (f : word-out w ≡ read-item word s (place c)) where
+  pub then-word : {v : ℕ} {d : Cursor} → Inside s c → w ≡ a-word.Got v d → Then (words 1) s p (passed.Got d) (number v ∷ [])
+  then-word i e = rw h (item-goes word s c i (rw e at f))
+
+  pub no-word : {x : Refusal} {vs : List Value} → w ≡ a-word.Stop x → Then (words 1) s p (passed.Stop x) vs
+  no-word e = rw h (item-halts word s c (rw e at f))
+
+module _ (s : List ℕ) {p : Passed} (c : Cursor) (h : p ≡ passed.Got c) {w : Long} (f : long-out w ≡ read-item long s (place c)) where
+  pub then-long : {v : ℕ} {d : Cursor} → Inside s c → w ≡ a-long.Got v d → Then (plain long ∷ []) s p (passed.Got d) (number v ∷ [])
+  then-long i e = rw h (item-goes long s c i (rw e at f))
+
+  pub no-long : {x : Refusal} {vs : List Value} → w ≡ a-long.Stop x → Then (plain long ∷ []) s p (passed.Stop x) vs
+  no-long e = rw h (item-halts long s c (rw e at f))
+
+-- n words, and those that are loaded of them
+module _ (n : ℕ) (s : List ℕ) {p : Passed} (c : Cursor) (h : p ≡ passed.Got c) (i : Inside s c) {q : Passed} (f : passed-out q nothing ≡ times n (follow any-word) s (place c)) where
+  pub run-there : {d : Cursor} → q ≡ passed.Got d → c .at + 4 * n ≤ length s
+  run-there e = run-row s n (place c) (i .inside) (rw e at f) .0
+
+  pub then-words : {d : Cursor} {vs : List Value} → q ≡ passed.Got d → vs ≡ numbers n s (c .at) → Then (words n) s p (passed.Got d) vs
+  then-words e z = rw (h, z) (goes (run-row s n (place c) (i .inside) (rw e at f) .1) (words-inside n s c f i e))
+
+  pub no-words : {x : Refusal} {vs : List Value} → q ≡ passed.Stop x → Then (words n) s p (passed.Stop x) vs
+  no-words e = rw h (halts (run-cut s n (place c) (i .inside) (rw e at f)))
+
+same-numbers : {v w : ℕ} {vs ws : List Value} → v ≡ w → vs ≡ ws → number v ∷ vs ≡ number w ∷ ws
+same-numbers e f = cc
+
+-- the first i of the words at `at`
+pub record Loaded (i : ℕ) (s : List ℕ) (at : ℕ) (w : List ℕ) : Type 0 where
+  pub size : length w ≡ 8
+  pub each : (j : ℕ) → j < i → getD w j 0 ≡ be4 s (at + 4 * j)
+
+module _ (s : List ℕ) (at : ℕ) where
+  pub load-none : Loaded 0 s at (replicate 8 0)
+  load-none = record { size = refl; each = λ j l. absurd (omega arith) }
+
+  pub load-more : {i n v : ℕ} {w : List ℕ} → Loaded i s at w → i < n → n ≤ 8 → v ≡ be4 s (at + 4 * i) → Loaded (i + 1) s at (set w i v)
+  load-more {i} {n} {v} {w} r l m e = record {
+    size = simp length-set (r .size);
+    each = λ j h. go j (eqb j i) refl h;
+  }
+    where
+      go : (j : ℕ) (t : Bool) → eqb j i ≡ t → j < i + 1 → getD (set w i v) j 0 ≡ be4 s (at + 4 * j)
+      go j true t h = let z : j ≡ i = eqb-true j i t in rw z (getD-set-same w i v 0 (omega (arith, r .size)) ∙ e)
+      go j false t h = getD-set-other w i j v 0 (eqb-false j i t) ∙ r .each j (omega (arith, eqb-false j i t))
+
+  loads-from : (k m i : ℕ) (w : List ℕ) → Loaded i s at w → m + k ≤ i → loaded-from k w m ≡ numbers-from k s at (4 * m)
+  loads-from zero m i w r l = refl
+  loads-from (suc k) m i w r l =
+      let z : 4 * (m + 1) ≡ 4 * m + 4 = omega arith in
+      same-numbers (r .each m (omega arith)) (loads-from k (m + 1) i w r (omega arith) ∙ ap (λ (j : ℕ). numbers-from k s at j) z)
+
+  pub load-all : (n i : ℕ) (w : List ℕ) → Loaded i s at w → n ≤ i → loaded n w ≡ numbers n s at
+  load-all zero i w r l = refl
+  load-all (suc n) i w r l =
+      let z : at + 4 * 0 ≡ at = omega arith in
+      same-numbers (r .each 0 (omega arith) ∙ ap (λ (j : ℕ). be4 s j) z) (loads-from n 1 i w r (omega arith))
+
+-- six bytes, one by one
+pub first-six : (l : List ℕ) → 6 ≤ length l → (getD l 0 0 ∷ getD l 1 0 ∷ getD l 2 0 ∷ getD l 3 0 ∷ getD l 4 0 ∷ getD l 5 0 ∷ []) ≡ take 6 l
+first-six (a ∷ b ∷ c ∷ d ∷ e ∷ f ∷ l) h = refl
+first-six (a ∷ b ∷ c ∷ d ∷ e ∷ []) h = absurd (omega arith)
+first-six (a ∷ b ∷ c ∷ d ∷ []) h = absurd (omega arith)
+first-six (a ∷ b ∷ c ∷ []) h = absurd (omega arith)
+first-six (a ∷ b ∷ []) h = absurd (omega arith)
+first-six (a ∷ []) h = absurd (omega arith)
+first-six [] h = absurd (omega arith)
+
+-- blocks
+module _ (s : List ℕ) {p : Passed} (c : Cursor) (h : p ≡ passed.Got c) (i : Inside s c) {b : Block} where
+  pub then-sixteen : Is-block sixteen s c b → Then (bytes sixteen ∷ []) s p (b .passed) (octets (b .bytes) ∷ [])
+  then-sixteen k =
+      let e : take 16 (b .bytes) ≡ b .bytes = sym (append-nil _) ∙ ap (λ (t : List ℕ). take 16 (b .bytes) ++ t) (sym (k .rest)) ∙ take-append-drop 16 (b .bytes) in
+      rw (← e) (then-reads h i (k .read))
+
+  -- six bytes: a block of their own, or the first of a block of eight
+  then-mac : {m : List ℕ} → Is-block eight s c b → m ≡ take 6 (b .bytes) → Then (mac ∷ []) s p (b .passed) (octets m ∷ [])
+  unfolding field-out
+  then-mac {m} k y = go (then-reads h i (k .read))
+    where
+      go : {q r : Passed} → Then (bytes eight ∷ []) s q r (octets (take 8 (b .bytes)) ∷ []) → Then (mac ∷ []) s q r (octets m ∷ [])
+      go (goes {d} {e} f j) =
+          let z : take 6 (take 8 (b .bytes)) ≡ m = take-take 6 8 (b .bytes) (omega arith) ∙ sym y in
+          goes {e = e} (sole-gives mac s (place d) {v = octets m} (rw (sole-gave (bytes eight) s (place d) f) (ap (λ (t : List ℕ). got (octets t) (place e)) z))) j
+      go (halts {d} {x} f) = halts (sole-halts mac s (place d) {c = x .code} {a = x .at} {n = x .steps} (rw (sole-halted (bytes eight) s (place d) f)))
+      go stays = stays
+
+  pub then-six : {w : Width} {x : List ℕ} (padded : Bool) → w ≡ cond padded eight six → Is-block w s c b → x ≡ take 6 (b .bytes) → Then (cond padded mac (bytes six) ∷ []) s p (b .passed) (octets x ∷ [])
+  then-six {x = x} padded y k e = go padded (rw y at k)
+    where
+      go : (t : Bool) → Is-block (cond t eight six) s c b → Then (cond t mac (bytes six) ∷ []) s p (b .passed) (octets x ∷ [])
+      go true k = then-mac k e
+      go false k = rw e (then-reads h i (k .read))
+
+-- what is answered by where it lies
+pub range-got : {o : Part} {x : Span} {d : Cursor} → o ≡ a-part.Got x d → record { passed = passed.Got d; span = x } ≡ range-of o
+range-got e = rw e
+
+pub range-stop : {o : Part} {x : Refusal} → o ≡ a-part.Stop x → no-range x ≡ range-of o
+range-stop e = rw e
+
+pub range-arm : {k j : Kind} {s : List ℕ} {c : Cursor} {q : Passed} {vs : List Value} → k ≡ j → Reads (field-of j ∷ []) s c q vs → Reads (field-of k ∷ []) s c q vs
+range-arm e r = rw e r
+
+pub data Part-of : Kind → Item → Type 0 where
+  is-opaque : Part-of kind.Opaque opaque
+  is-text : Part-of kind.Text string
+
+module _ (s : List ℕ) (c : Cursor) where
+  pub range-part : {k j : Kind} {i : Item} (o : Part) {r : Ranged} → k ≡ j → part-out o ≡ read-item i s (place c) → Part-of j i → r ≡ range-of o → Reads (field-of k ∷ []) s c (r .passed) (part (span (r .span)) ∷ [])
+  unfolding field-out
+  range-part o h e y q = rw (h, q) (go o e y)
+    where
+      item-read : {v : Value} {d : Cursor} (i : Item) → got v (place d) ≡ read-item i s (place c) → Reads (plain i ∷ []) s c (passed.Got d) (v ∷ [])
+      item-read i e = record { is = reads-shown (plain i ∷ []) s (place c) (sole-gives (plain i) s (place c) (sym e)) }
+
+      item-cut : {x : Refusal} (i : Item) → refusal x ≡ read-item i s (place c) → Reads (plain i ∷ []) s c (passed.Stop x) (zeros (plain i ∷ []))
+      item-cut i e = record { is = halts-shown (plain i ∷ []) s (place c) (sole-halts (plain i) s (place c) (sym e)) }
+
+      go : {j : Kind} {i : Item} (o : Part) → part-out o ≡ read-item i s (place c) → Part-of j i → Reads (field-of j ∷ []) s c (range-of o .passed) (part (span (range-of o .span)) ∷ [])
+      go (a-part.Got x d) e is-opaque = item-read opaque e
+      go (a-part.Got x d) e is-text = item-read string e
+      go (a-part.Stop x) e is-opaque = item-cut opaque e
+      go (a-part.Stop x) e is-text = item-cut string e
+
+-- for the readers: where the next item begins, and what all the items make
+pub ruleset steps = (within-start, within-then, needs)
+
+pub ruleset rows = (all-read, all-refused, then-on, then-is, ends, ends-on)
+
+-- for the items themselves
+pub ruleset items = (within-got, handed-on, then-reads, then-word, no-word, then-long, no-long, then-sixteen, then-six, range-got, range-stop, is-opaque, is-text, range-part, range-arm, run-there, then-words, no-words, load-none, load-more, load-all, needs)

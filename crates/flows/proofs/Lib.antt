@@ -1,0 +1,6 @@
+pub mod Chain
+pub mod Counts
+pub mod Protocols
+pub mod Scan
+pub mod Formats
+pub mod Placing

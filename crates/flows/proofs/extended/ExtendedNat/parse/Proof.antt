@@ -1,0 +1,18 @@
+use Rattle.reading.specs.Layout.{flows}
+use Rattle.reading.specs.Answer.{layout-of}
+use Rattle.flows.proofs.Chain.{steps, rows}
+use Rattle.flows.proofs.extended.ExtendedNat.parse.Statement.{statement}
+use Rattle.flows.proofs.extended.ExtendedNat.parse.Tie as tie
+
+pub parse-spec : {M : Type 1} → statement M
+unfolding layout-of flows
+parse-spec =
+    tie.close
+    (tie.spec
+    (λ c κs. search steps)  -- address-requires extended.rt:260:13
+    (λ c κs. search steps)  -- address-requires-2 extended.rt:263:13
+    (λ c. search steps)  -- enum-known-passed extended.rt:267:26
+    (λ c. search steps)  -- enum-known-passed-2 extended.rt:278:25
+    (λ c. search rows)  -- returns extended.rt:256:5
+    (λ c. search rows)  -- returns-2 extended.rt:256:5
+    )

@@ -1,0 +1,20 @@
+use Rattle.reading.specs.Layout.{flows}
+use Rattle.reading.specs.Answer.{layout-of}
+use Rattle.flows.proofs.Chain.{steps, rows}
+use Rattle.flows.proofs.mpls.ExtendedMplsTunnel.parse.Statement.{statement}
+use Rattle.flows.proofs.mpls.ExtendedMplsTunnel.parse.Tie as tie
+
+pub parse-spec : {M : Type 1} → statement M
+unfolding layout-of flows
+parse-spec =
+    tie.close
+    (tie.spec
+    (λ c κs. search steps)  -- range-requires mpls.rt:78:13
+    (λ c κs. search steps)  -- words-requires mpls.rt:81:13
+    (λ c. search steps)  -- enum-known-passed mpls.rt:85:26
+    (λ c. search steps)  -- enum-known-passed-2 mpls.rt:91:25
+    (λ c. search steps)  -- array-read-t19 mpls.rt:94:28
+    (λ c. search steps)  -- array-read-t22 mpls.rt:95:29
+    (λ c. search rows)  -- returns mpls.rt:74:5
+    (λ c. search rows)  -- returns-2 mpls.rt:74:5
+    )

@@ -1,0 +1,266 @@
+-- The cycle of flow record, aggregation and PDU: the remaining depth falls at each turn. Assumes nothing.
+use Prim.Native.Nat.{ℕ, _<_, _+_, _*_, _-_}
+use mathlib.Core.Path.{_≡_}
+use borrow.Author.Needs.{needs}
+use Rattle.reading.specs.Cursor.{times, follow}
+use Rattle.reading.specs.Layout.{flows, flow, pdu}
+use Rattle.reading.specs.Answer.{layout-of}
+use Rattle.reading.proofs.Counts.{counted}
+use Rattle.xdr.specs.Shown.{place}
+use Rattle.xdr.proofs.Rows.{reads-inside}
+use Rattle.flows.specs.Scanned.{Scan}
+use Rattle.flows.proofs.Scan as scan
+use borrow.Fn.Kinds.{In}
+use borrow.Fn.PlainCycle.{Measures, is, falls, and}
+use Rattle.flows.proofs.records.aggregation.Reads as aggregation
+use Rattle.flows.proofs.records.aggregation.Kinds as aggregation-kinds
+use Rattle.flows.proofs.records.+aggregation+flow_data+flow_record+flow_records+one_pdu+pdus.Lts-aggregation as aggregation-lts
+use Rattle.flows.proofs.records.flow_data.Reads as flow-data
+use Rattle.flows.proofs.records.flow_data.Kinds as flow-data-kinds
+use Rattle.flows.proofs.records.+aggregation+flow_data+flow_record+flow_records+one_pdu+pdus.Lts-flow_data as flow-data-lts
+use Rattle.flows.proofs.records.flow_record.Reads as flow-record
+use Rattle.flows.proofs.records.flow_record.Kinds as flow-record-kinds
+use Rattle.flows.proofs.records.+aggregation+flow_data+flow_record+flow_records+one_pdu+pdus.Lts-flow_record as flow-record-lts
+use Rattle.flows.proofs.records.flow_records.Reads as flow-records
+use Rattle.flows.proofs.records.flow_records.Kinds as flow-records-kinds
+use Rattle.flows.proofs.records.+aggregation+flow_data+flow_record+flow_records+one_pdu+pdus.Lts-flow_records as flow-records-lts
+use Rattle.flows.proofs.records.one_pdu.Reads as one-pdu
+use Rattle.flows.proofs.records.one_pdu.Kinds as one-pdu-kinds
+use Rattle.flows.proofs.records.+aggregation+flow_data+flow_record+flow_records+one_pdu+pdus.Lts-one_pdu as one-pdu-lts
+use Rattle.flows.proofs.records.pdus.Reads as pdus
+use Rattle.flows.proofs.records.pdus.Kinds as pdus-kinds
+use Rattle.flows.proofs.records.+aggregation+flow_data+flow_record+flow_records+one_pdu+pdus.Lts-pdus as pdus-lts
+use Rattle.flows.proofs.data.pass.Reads as pass-reads
+use Rattle.flows.proofs.frames.Frame.parse.Reads as frames-Frame-parse-reads
+use Rattle.flows.proofs.wireless.Extended80211Aggregation.parse.Reads as wireless-Extended80211Aggregation-parse-reads
+use Rattle.xdr.proofs.Cursor.read_u32.Reads as read-u32-reads
+use Rattle.xdr.proofs.Cursor.refusal.Reads as refusal-reads
+use Rattle.flows.proofs.records.+aggregation+flow_data+flow_record+flow_records+one_pdu+pdus.{
+  statement,
+}
+use Rattle.flows.proofs.records.+aggregation+flow_data+flow_record+flow_records+one_pdu+pdus.Tie.{
+  close,
+}
+
+abbrev μ-aggregation : Measures 1 aggregation-kinds.ps ℕ
+μ-aggregation κs a = 6 * a .1 .1 .0 + 4
+
+abbrev μ-flow-data : Measures 1 flow-data-kinds.ps ℕ
+μ-flow-data κs a = 6 * a .1 .1 .1 .0 + 5
+
+abbrev μ-flow-record : Measures 1 flow-record-kinds.ps ℕ
+μ-flow-record κs a = 6 * a .1 .1 .0
+
+abbrev μ-flow-records : Measures 1 flow-records-kinds.ps ℕ
+μ-flow-records κs a = 6 * a .1 .1 .1 .0 + 1
+
+abbrev μ-one-pdu : Measures 1 one-pdu-kinds.ps ℕ
+μ-one-pdu κs a = 6 * a .1 .1 .0 + 2
+
+abbrev μ-pdus : Measures 1 pdus-kinds.ps ℕ
+μ-pdus κs a = 6 * a .1 .1 .1 .0 + 3
+
+abbrev aggregation-at : ℕ → In 1 aggregation-kinds.ps
+aggregation-at t =
+    and 1 aggregation-kinds.ps (is 1 aggregation-kinds.ps μ-aggregation t) aggregation.Pre
+
+abbrev aggregation-below : ℕ → In 1 aggregation-kinds.ps
+aggregation-below t =
+    and 1 aggregation-kinds.ps (falls 1 aggregation-kinds.ps _<_ μ-aggregation t) aggregation.Pre
+
+abbrev flow-data-at : ℕ → In 1 flow-data-kinds.ps
+flow-data-at t = and 1 flow-data-kinds.ps (is 1 flow-data-kinds.ps μ-flow-data t) flow-data.Pre
+
+abbrev flow-data-below : ℕ → In 1 flow-data-kinds.ps
+flow-data-below t =
+    and 1 flow-data-kinds.ps (falls 1 flow-data-kinds.ps _<_ μ-flow-data t) flow-data.Pre
+
+abbrev flow-record-at : ℕ → In 1 flow-record-kinds.ps
+flow-record-at t =
+    and 1 flow-record-kinds.ps (is 1 flow-record-kinds.ps μ-flow-record t) flow-record.Pre
+
+abbrev flow-record-below : ℕ → In 1 flow-record-kinds.ps
+flow-record-below t =
+    and 1 flow-record-kinds.ps (falls 1 flow-record-kinds.ps _<_ μ-flow-record t) flow-record.Pre
+
+abbrev flow-records-at : ℕ → In 1 flow-records-kinds.ps
+flow-records-at t =
+    and 1 flow-records-kinds.ps (is 1 flow-records-kinds.ps μ-flow-records t) flow-records.Pre
+
+abbrev flow-records-below : ℕ → In 1 flow-records-kinds.ps
+flow-records-below t =
+    and
+    1
+    flow-records-kinds.ps
+    (falls 1 flow-records-kinds.ps _<_ μ-flow-records t)
+    flow-records.Pre
+
+abbrev one-pdu-at : ℕ → In 1 one-pdu-kinds.ps
+one-pdu-at t = and 1 one-pdu-kinds.ps (is 1 one-pdu-kinds.ps μ-one-pdu t) one-pdu.Pre
+
+abbrev one-pdu-below : ℕ → In 1 one-pdu-kinds.ps
+one-pdu-below t = and 1 one-pdu-kinds.ps (falls 1 one-pdu-kinds.ps _<_ μ-one-pdu t) one-pdu.Pre
+
+abbrev pdus-at : ℕ → In 1 pdus-kinds.ps
+pdus-at t = and 1 pdus-kinds.ps (is 1 pdus-kinds.ps μ-pdus t) pdus.Pre
+
+abbrev pdus-below : ℕ → In 1 pdus-kinds.ps
+pdus-below t = and 1 pdus-kinds.ps (falls 1 pdus-kinds.ps _<_ μ-pdus t) pdus.Pre
+
+abbrev flow-records-Inv-loop : flow-records-lts.InvT-loop
+flow-records-Inv-loop s n left count cur₀ found₀ rest₀ cur found rest =
+    (Scan s cur found) × (counted found (times rest (follow (flow 8 left)) s (place cur)) ≡ counted found₀ (times n (follow (flow 8 left)) s (place cur₀)))
+
+abbrev flow-records-μ-loop : flow-records-lts.MeasureT-loop
+flow-records-μ-loop s n left count cur₀ found₀ rest₀ cur found rest = rest
+
+abbrev pdus-Inv-loop : pdus-lts.InvT-loop
+pdus-Inv-loop s n left count cur₀ found₀ rest₀ cur found rest =
+    (Scan s cur found) × (counted found (times rest (follow (pdu (8 - left) (flow 8 left))) s (place cur)) ≡ counted found₀ (times n (follow (pdu (8 - left) (flow 8 left))) s (place cur₀)))
+
+abbrev pdus-μ-loop : pdus-lts.MeasureT-loop
+pdus-μ-loop s n left count cur₀ found₀ rest₀ cur found rest = rest
+
+ruleset scanning = (
+  scan.scan-inside,
+  scan.flow-thrift,
+  scan.pdu-thrift,
+  scan.scan-on,
+  scan.scan-done,
+  scan.scan-turn,
+  scan.scan-stop,
+  scan.pdu-short,
+  scan.pdu-full,
+  scan.word-scan,
+  scan.word-counts,
+  scan.frame-fits,
+  scan.frame-part,
+  scan.frame-counts,
+  scan.frame-scan,
+  scan.record-deep,
+  scan.record-cut,
+  scan.record-stop,
+  scan.record-got,
+  scan.data-aggregation,
+  scan.data-stop,
+  scan.data-got,
+  scan.aggregation-cut,
+  scan.aggregation-held,
+  scan.reads-scan,
+  needs,
+)
+
+pub +aggregation+flow-data+flow-record+flow-records+one-pdu+pdus-spec : {M : Type 1} → statement M
+unfolding layout-of flows
++aggregation+flow-data+flow-record+flow-records+one-pdu+pdus-spec =
+    close
+    μ-aggregation
+    μ-flow-data
+    μ-flow-record
+    μ-flow-records
+    μ-one-pdu
+    μ-pdus
+    (λ t. aggregation-lts.spec (
+      wireless-Extended80211Aggregation-parse-reads.Asked,
+      wireless-Extended80211Aggregation-parse-reads.Learnt,
+      pdus-below t,
+      pdus.Post,
+    )
+    (aggregation-at t)
+    aggregation.Post
+    (λ c κs. search scanning)  -- aggregation-parse-requires records.rt:90:9
+    (λ c. search scanning)  -- aggregation-enum-known-passed records.rt:94:22
+    (λ c. search scanning)  -- aggregation-enum-known-passed-2 records.rt:95:21
+    (λ c κs. search scanning)  -- aggregation-pdus-requires records.rt:95:27
+    (λ c. search scanning)  -- aggregation-returns records.rt:86:1
+    (λ c. search scanning)  -- aggregation-returns-2 records.rt:86:1
+    )
+    (λ t. flow-data-lts.spec (
+      aggregation-below t,
+      aggregation.Post,
+      pass-reads.Asked,
+      pass-reads.Learnt,
+    )
+    (flow-data-at t)
+    flow-data.Post
+    (λ c κs. search scanning)  -- flow-data-aggregation-requires records.rt:77:9
+    (λ c. search scanning)  -- flow-data-returns records.rt:77:9
+    (λ c κs. search scanning)  -- flow-data-pass-requires records.rt:79:11
+    (λ c. search scanning)  -- flow-data-enum-known-r records.rt:80:22
+    (λ c. search scanning)  -- flow-data-enum-known-d records.rt:81:21
+    (λ c. search scanning)  -- flow-data-returns-2 records.rt:72:1
+    (λ c. search scanning)  -- flow-data-returns-3 records.rt:72:1
+    )
+    (λ t. flow-record-lts.spec (
+      refusal-reads.Asked,
+      refusal-reads.Learnt,
+      frames-Frame-parse-reads.Asked,
+      frames-Frame-parse-reads.Learnt,
+      flow-data-below t,
+      flow-data.Post,
+    )
+    (flow-record-at t)
+    flow-record.Post
+    (λ c κs. search scanning)  -- flow-record-refusal-requires records.rt:46:30
+    (λ c. search scanning)  -- flow-record-returns records.rt:46:9
+    (λ c κs. search scanning)  -- flow-record-parse-requires records.rt:48:11
+    (λ c. search scanning)  -- flow-record-enum-known-r records.rt:49:21
+    (λ c. search scanning)  -- flow-record-enum-known-format records.rt:50:20
+    (λ c. search scanning)  -- flow-record-add-end records.rt:52:23
+    (λ c. search scanning)  -- flow-record-slice-aggregate-flow-data records.rt:57:29
+    (λ c. search scanning)  -- flow-record-sub-flow-data records.rt:57:55
+    (λ c. search scanning)  -- flow-record-add-flow-data records.rt:57:65
+    (λ c κs. search scanning)  -- flow-record-flow-data-requires records.rt:57:19
+    (λ c. search scanning)  -- flow-record-enum-known-r-2 records.rt:58:31
+    (λ c. search scanning)  -- flow-record-enum-known-d records.rt:59:30
+    (λ c. search scanning)  -- flow-record-returns-2 records.rt:41:1
+    (λ c. search scanning)  -- flow-record-returns-3 records.rt:41:1
+    (λ c. search scanning)  -- flow-record-returns-4 records.rt:41:1
+    )
+    (λ t. flow-records-lts.spec
+    (flow-record-below t, flow-record.Post)
+    (flow-records-at t)
+    flow-records.Post
+    flow-records-Inv-loop
+    flow-records-μ-loop
+    (λ c. search scanning)  -- flow-records-loop-holds records.rt:25:5
+    (λ c κs. search scanning)  -- flow-records-flow-record-requires records.rt:26:15
+    (λ c. search scanning)  -- flow-records-enum-known-r records.rt:27:27
+    (λ c. search scanning)  -- flow-records-returns records.rt:28:17
+    (λ c. search scanning)  -- flow-records-enum-known-d records.rt:30:26
+    (λ c. search scanning)  -- flow-records-sub-rest records.rt:35:16
+    (λ c. search scanning)  -- flow-records-loop-less records.rt:25:5
+    (λ c. search scanning)  -- flow-records-loop-again records.rt:25:5
+    (λ c. search scanning)  -- flow-records-returns-2 records.rt:18:1
+    )
+    (λ t. one-pdu-lts.spec (
+      read-u32-reads.Asked,
+      read-u32-reads.Learnt,
+      flow-records-below t,
+      flow-records.Post,
+    )
+    (one-pdu-at t)
+    one-pdu.Post
+    (λ c κs. search scanning)  -- one-pdu-read-u32-requires records.rt:127:11
+    (λ c. search scanning)  -- one-pdu-enum-known-r records.rt:128:20
+    (λ c. search scanning)  -- one-pdu-enum-known-n records.rt:129:19
+    (λ c. search scanning)  -- one-pdu-add-flow-records records.rt:129:56
+    (λ c κs. search scanning)  -- one-pdu-flow-records-requires records.rt:129:28
+    (λ c. search scanning)  -- one-pdu-returns records.rt:123:1
+    (λ c. search scanning)  -- one-pdu-returns-2 records.rt:123:1
+    )
+    λ t. pdus-lts.spec
+    (one-pdu-below t, one-pdu.Post)
+    (pdus-at t)
+    pdus.Post
+    pdus-Inv-loop
+    pdus-μ-loop
+    (λ c. search scanning)  -- pdus-loop-holds records.rt:107:5
+    (λ c κs. search scanning)  -- pdus-one-pdu-requires records.rt:108:15
+    (λ c. search scanning)  -- pdus-enum-known-r records.rt:109:27
+    (λ c. search scanning)  -- pdus-returns records.rt:110:17
+    (λ c. search scanning)  -- pdus-enum-known-d records.rt:112:26
+    (λ c. search scanning)  -- pdus-sub-rest records.rt:117:16
+    (λ c. search scanning)  -- pdus-loop-less records.rt:107:5
+    (λ c. search scanning)  -- pdus-loop-again records.rt:107:5
+    (λ c. search scanning)  -- pdus-returns-2 records.rt:100:1

@@ -1,0 +1,16 @@
+use Rattle.reading.specs.Layout.{flows}
+use Rattle.reading.specs.Answer.{layout-of}
+use Rattle.flows.proofs.Chain.{steps, rows}
+use Rattle.flows.proofs.wireless.Extended80211Aggregation.parse.Statement.{statement}
+use Rattle.flows.proofs.wireless.Extended80211Aggregation.parse.Tie as tie
+
+pub parse-spec : {M : Type 1} → statement M
+unfolding layout-of flows
+parse-spec =
+    tie.close (tie.spec
+    (λ c κs. search steps)  -- word-requires wireless.rt:196:13
+    (λ c. search steps)  -- enum-known-passed wireless.rt:200:26
+    (λ c. search steps)  -- enum-known-passed-2 wireless.rt:204:25
+    (λ c. search rows)  -- returns wireless.rt:192:5
+    (λ c. search rows)  -- returns-2 wireless.rt:192:5
+    )

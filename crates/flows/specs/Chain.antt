@@ -1,0 +1,58 @@
+-- Items read one after another, each from the outcome of those before it, which is handed on where it is a refusal. Assumes nothing.
+use Prim.Native.Nat.{ℕ, zero, suc, _+_}
+use mathlib.Core.Path.{_≡_}
+use mathlib.Core.List.{List, [], _∷_}
+use lib.ListN.{getD}
+use Rattle.reading.specs.Script.{Value, number, opaque}
+use Rattle.reading.specs.Cursor.{Out, got}
+use Rattle.reading.specs.Layout.{Field, plain, str, list, segments}
+use Rattle.reading.proofs.Fields.{fields-out}
+use Rattle.xdr.specs.declared.Cursor.{Cursor}
+use Rattle.xdr.specs.declared.Refusal.{Refusal}
+use Rattle.xdr.specs.declared.Passed.{Passed}
+use Rattle.xdr.specs.declared.Passed.the-variants as passed
+use Rattle.xdr.specs.declared.Part.{Part}
+use Rattle.xdr.specs.declared.Part.the-variants as a-part
+use Rattle.flows.specs.declared.lists.Ranged.{Ranged}
+use Rattle.flows.specs.declared.next.Kind.{Kind}
+use Rattle.flows.specs.declared.next.Kind.the-variants as kind
+use Rattle.xdr.specs.Shown.{place, Inside, refusal}
+
+-- an outcome that can be read on from
+pub data Within (s : List ℕ) : Passed → Type 0 where
+  inside : {c : Cursor} → Inside s c → Within s (passed.Got c)
+  over : {x : Refusal} → Within s (passed.Stop x)
+
+-- the fields l, read on from p, end so; their values count where they were read
+pub data Then (l : List Field) (s : List ℕ) : Passed → Passed → List Value → Type 0 where
+  goes : {d e : Cursor} {vs : List Value} → fields-out l s (place d) ≡ got vs (place e) → Inside s e → Then l s (passed.Got d) (passed.Got e) vs
+  halts : {d : Cursor} {x : Refusal} {vs : List Value} → fields-out l s (place d) ≡ refusal x → Then l s (passed.Got d) (passed.Stop x) vs
+  stays : {x : Refusal} {vs : List Value} → Then l s (passed.Stop x) (passed.Stop x) vs
+
+-- the first n of some words, as they are read one by one
+abbrev pub loaded-from : ℕ → List ℕ → (i : ℕ) → List Value
+loaded-from zero w i = []
+loaded-from (suc n) w i = number (getD w i 0) ∷ loaded-from n w (i + 1)
+
+abbrev pub loaded : ℕ → List ℕ → List Value
+loaded n w = loaded-from n w 0
+
+-- ---- what is answered by where it lies
+
+abbrev pub field-of : Kind → Field
+field-of kind.Opaque = plain opaque
+field-of kind.Text = str
+field-of kind.List = list
+field-of kind.Segments = segments
+
+abbrev pub no-range : Refusal → Ranged
+no-range x = record { passed = passed.Stop x; span = record { start = 0; count = 0 } }
+
+abbrev pub range-of : Part → Ranged
+range-of (a-part.Got x d) = record { passed = passed.Got d; span = x }
+range-of (a-part.Stop x) = no-range x
+
+-- n of something, from `start` on
+abbrev pub counted : (start n : ℕ) → Passed → Ranged
+counted a n (passed.Got d) = record { passed = passed.Got d; span = record { start = a; count = n } }
+counted a n (passed.Stop x) = no-range x

@@ -1,0 +1,246 @@
+// The next item of a layout, where those before it were passed; a refusal is handed on.
+ghost use mathlib.Core.Path.{_≡_};
+ghost use mathlib.Core.List.{[], _∷_};
+ghost use mathlib.Core.Bool.{cond};
+ghost use Prim.Native.Nat.{_+_, _*_, _≤_};
+ghost use lib.ListN.{length, take};
+ghost use Rattle.reading.specs.Script.{number, octets, part, long, six, eight, sixteen};
+ghost use Rattle.reading.specs.Layout.{plain, mac, addr, words, bytes};
+ghost use Rattle.reading.proofs.Words.{numbers};
+ghost use Rattle.xdr.specs.Shown.{Inside, Reads, span, width, an-address};
+ghost use Rattle.flows.specs.Chain.{Within, Then, loaded, field-of, range-of};
+use crate::lists;
+use crate::lists::Ranged;
+use xdr::Address;
+use xdr::Addressed;
+use xdr::Block;
+use xdr::Cursor;
+use xdr::Long;
+use xdr::Part;
+use xdr::Passed;
+use xdr::Refusal;
+use xdr::Span;
+use xdr::Width;
+use xdr::Word;
+use xdr::load;
+
+pub struct Number {
+    pub passed: Passed,
+    pub value: u32,
+}
+
+pub struct Wide {
+    pub passed: Passed,
+    pub value: u64,
+}
+
+// A row of words.
+pub struct Run {
+    pub passed: Passed,
+    pub words: [u32; 8],
+}
+
+pub struct Mac {
+    pub passed: Passed,
+    pub bytes: [u8; 6],
+}
+
+// What is answered by where it lies.
+pub enum Kind {
+    Opaque,
+    Text,
+    List,
+    Segments,
+}
+
+pub fn word(p: Passed, s: &[u8]) -> Number
+    requires { ⌜ Within (now s) p ⌝ }
+    ensures { λ r. ⌜ Then (words 1) (now (s .entry)) p (r .passed) (number (r .value) ∷ []) ⌝ }
+{
+    match p {
+        Passed::Stop(r) => Number {
+            passed: Passed::Stop(r),
+            value: 0,
+        },
+        Passed::Got(c) => match c.read_u32(s) {
+            Word::Stop(r) => Number {
+                passed: Passed::Stop(r),
+                value: 0,
+            },
+            Word::Got(v, d) => Number {
+                passed: Passed::Got(d),
+                value: v,
+            },
+        },
+    }
+}
+
+// The n words at `at`.
+fn load8(s: &[u8], at: usize, n: usize) -> [u32; 8]
+    requires { ⌜ (n ≤ 8) × (at + 4 * n ≤ length (now s)) ⌝ }
+    ensures { λ r. ⌜ loaded n r ≡ numbers n (now (s .entry)) at ⌝ }
+{
+    let mut words = [0u32; 8];
+    let mut i = 0;
+    while i < n {
+        words[i] = load::be32(s, at + 4 * i);
+        i += 1;
+    }
+    words
+}
+
+// n words, of which all are known to be there before the first is loaded.
+pub fn words(p: Passed, s: &[u8], n: u32) -> Run
+    requires { ⌜ Within (now s) p ⌝ }
+    requires { ⌜ n ≤ 8 ⌝ }
+    ensures { λ r. ⌜ Then (words n) (now (s .entry)) p (r .passed) (loaded n (r .words)) ⌝ }
+{
+    match p {
+        Passed::Stop(r) => Run {
+            passed: Passed::Stop(r),
+            words: [0u32; 8],
+        },
+        Passed::Got(c) => {
+            let at = c.at;
+            match c.read_words(s, n) {
+                Passed::Stop(r) => Run {
+                    passed: Passed::Stop(r),
+                    words: [0u32; 8],
+                },
+                Passed::Got(d) => Run {
+                    passed: Passed::Got(d),
+                    words: load8(s, at, n as usize),
+                },
+            }
+        }
+    }
+}
+
+pub fn address(p: Passed, s: &[u8]) -> Addressed
+    requires { ⌜ Within (now s) p ⌝ }
+    ensures { λ r. ⌜ Then (addr ∷ []) (now (s .entry)) p (r .passed) (an-address (r .address) ∷ []) ⌝ }
+{
+    match p {
+        Passed::Stop(r) => Addressed {
+            passed: Passed::Stop(r),
+            address: Address {
+                kind: 0,
+                bytes: [0u8; 16],
+            },
+        },
+        Passed::Got(c) => c.parse_address(s),
+    }
+}
+
+pub fn long(p: Passed, s: &[u8]) -> Wide
+    requires { ⌜ Within (now s) p ⌝ }
+    ensures { λ r. ⌜ Then (plain long ∷ []) (now (s .entry)) p (r .passed) (number (r .value) ∷ []) ⌝ }
+{
+    match p {
+        Passed::Stop(r) => Wide {
+            passed: Passed::Stop(r),
+            value: 0,
+        },
+        Passed::Got(c) => match c.read_u64(s) {
+            Long::Stop(r) => Wide {
+                passed: Passed::Stop(r),
+                value: 0,
+            },
+            Long::Got(v, d) => Wide {
+                passed: Passed::Got(d),
+                value: v,
+            },
+        },
+    }
+}
+
+// A block of sixteen bytes.
+pub fn sixteen(p: Passed, s: &[u8]) -> Block
+    requires { ⌜ Within (now s) p ⌝ }
+    ensures { λ r. ⌜ Then (bytes sixteen ∷ []) (now (s .entry)) p (r .passed) (octets (r .bytes) ∷ []) ⌝ }
+{
+    match p {
+        Passed::Stop(r) => Block {
+            passed: Passed::Stop(r),
+            bytes: [0u8; 16],
+        },
+        Passed::Got(c) => c.read_fixed(s, Width::Sixteen),
+    }
+}
+
+fn six_width(padded: bool) -> Width
+    ensures { λ r. ⌜ width r ≡ cond padded eight six ⌝ }
+{
+    if padded {
+        return Width::Eight;
+    }
+    Width::Six
+}
+
+fn first_six(b: [u8; 16]) -> [u8; 6]
+    ensures { λ r. ⌜ r ≡ take 6 b ⌝ }
+{
+    [b[0], b[1], b[2], b[3], b[4], b[5]]
+}
+
+// Six bytes: a block of their own, or the first of a block of eight.
+pub fn six(p: Passed, s: &[u8], padded: bool) -> Mac
+    requires { ⌜ Within (now s) p ⌝ }
+    ensures { λ r. ⌜ Then (cond padded mac (bytes six) ∷ []) (now (s .entry)) p (r .passed) (octets (r .bytes) ∷ []) ⌝ }
+{
+    match p {
+        Passed::Stop(r) => Mac {
+            passed: Passed::Stop(r),
+            bytes: [0u8; 6],
+        },
+        Passed::Got(c) => {
+            let block = c.read_fixed(s, six_width(padded));
+            let passed = block.passed;
+            let bytes = block.bytes;
+            Mac {
+                passed: passed,
+                bytes: first_six(bytes),
+            }
+        }
+    }
+}
+
+fn of_part(x: Part) -> Ranged
+    ensures { λ r. ⌜ r ≡ range-of x ⌝ }
+{
+    match x {
+        Part::Stop(r) => Ranged {
+            passed: Passed::Stop(r),
+            span: Span { start: 0, count: 0 },
+        },
+        Part::Got(x, d) => Ranged {
+            passed: Passed::Got(d),
+            span: x,
+        },
+    }
+}
+
+fn range_at(c: Cursor, s: &[u8], kind: Kind) -> Ranged
+    requires { ⌜ Inside (now s) c ⌝ }
+    ensures { λ r. ⌜ Reads (field-of kind ∷ []) (now (s .entry)) c (r .passed) (part (span (r .span)) ∷ []) ⌝ }
+{
+    match kind {
+        Kind::Opaque => of_part(c.read_opaque(s)),
+        Kind::Text => of_part(c.read_string(s)),
+        Kind::List => lists::list(c, s),
+        Kind::Segments => lists::segments(c, s),
+    }
+}
+
+pub fn range(p: Passed, s: &[u8], kind: Kind) -> Ranged
+    requires { ⌜ Within (now s) p ⌝ }
+    ensures { λ r. ⌜ Then (field-of kind ∷ []) (now (s .entry)) p (r .passed) (part (span (r .span)) ∷ []) ⌝ }
+{
+    match p {
+        Passed::Stop(r) => Ranged {
+            passed: Passed::Stop(r),
+            span: Span { start: 0, count: 0 },
+        },
+        Passed::Got(c) => range_at(c, s, kind),
+    }
+}

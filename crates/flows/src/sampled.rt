@@ -1,0 +1,250 @@
+// What was sampled: the packet's first bytes, or the fields of its header.
+ghost use mathlib.Core.Path.{_≡_};
+ghost use mathlib.Core.List.{[], _∷_, _++_};
+ghost use Rattle.reading.specs.Script.{number, sixteen};
+ghost use Rattle.reading.specs.Layout.{bytes, protocol, words};
+ghost use Rattle.reading.specs.Values.{zeros};
+ghost use Rattle.reading.specs.Answer.{layout-of};
+ghost use Rattle.xdr.specs.Shown.{Inside, Reads, refused};
+ghost use Rattle.flows.specs.Chain.{Then};
+ghost use Rattle.flows.specs.Shown.{sampled-header, sampled-ethernet, sampled-ipv4, sampled-ipv6};
+use crate::next;
+use crate::next::Kind;
+use crate::next::Number;
+use xdr::Cursor;
+use xdr::Passed;
+use xdr::Refusal;
+use xdr::Span;
+use xdr::Word;
+
+// The protocol of a header, one of those that `HeaderProtocol` knows.
+fn protocol(c: Cursor, s: &[u8]) -> Number
+    requires { ⌜ Inside (now s) c ⌝ }
+    ensures { λ r. ⌜ Then (protocol ∷ []) (now (s .entry)) (Passed.Got c) (r .passed) (number (r .value) ∷ []) ⌝ }
+{
+    match c.read_u32(s) {
+        Word::Stop(r) => Number {
+            passed: Passed::Stop(r),
+            value: 0,
+        },
+        Word::Got(v, d) => {
+            if v < 1 {
+                return unknown(c);
+            }
+            if 17 < v {
+                return unknown(c);
+            }
+            Number {
+                passed: Passed::Got(d),
+                value: v,
+            }
+        }
+    }
+}
+
+fn unknown(c: Cursor) -> Number
+    ensures { λ r. ⌜ r .passed ≡ Passed.Stop (refused 6 c) ⌝ }
+{
+    Number {
+        passed: Passed::Stop(c.refusal(6)),
+        value: 0,
+    }
+}
+
+// Format 1: the packet's first bytes, by the protocol of its header.
+pub struct SampledHeader {
+    pub passed: Passed,
+    pub protocol: u32,
+    pub frame_length: u32,
+    pub stripped: u32,
+    pub header: Span,
+}
+
+impl SampledHeader {
+    pub fn parse(c: Cursor, s: &[u8]) -> SampledHeader
+        requires { ⌜ Inside (now s) c ⌝ }
+        ensures { λ r. ⌜ Reads (layout-of 2 1) (now (s .entry)) c (r .passed) (sampled-header r) ⌝ }
+    {
+        let kind = protocol(c, s);
+        let passed = kind.passed;
+        let protocol = kind.value;
+        let row = next::words(passed, s, 2);
+        let passed = row.passed;
+        let sizes = row.words;
+        let bytes = next::range(passed, s, Kind::Opaque);
+        let passed = bytes.passed;
+        let header = bytes.span;
+        match passed {
+            Passed::Stop(r) => SampledHeader {
+                passed: Passed::Stop(r),
+                protocol: 0,
+                frame_length: 0,
+                stripped: 0,
+                header: Span { start: 0, count: 0 },
+            },
+            Passed::Got(d) => SampledHeader {
+                passed: Passed::Got(d),
+                protocol: protocol,
+                frame_length: sizes[0],
+                stripped: sizes[1],
+                header: header,
+            },
+        }
+    }
+}
+
+// Format 2: an Ethernet frame.
+pub struct SampledEthernet {
+    pub passed: Passed,
+    pub length: u32,
+    pub src_mac: [u8; 6],
+    pub dst_mac: [u8; 6],
+    pub eth_type: u32,
+}
+
+impl SampledEthernet {
+    pub fn parse(c: Cursor, s: &[u8]) -> SampledEthernet
+        requires { ⌜ Inside (now s) c ⌝ }
+        ensures { λ r. ⌜ Reads (layout-of 2 2) (now (s .entry)) c (r .passed) (sampled-ethernet r) ⌝ }
+    {
+        let size = next::word(Passed::Got(c), s);
+        let passed = size.passed;
+        let length = size.value;
+        let src = next::six(passed, s, false);
+        let passed = src.passed;
+        let src_mac = src.bytes;
+        let dst = next::six(passed, s, false);
+        let passed = dst.passed;
+        let dst_mac = dst.bytes;
+        let kind = next::word(passed, s);
+        let passed = kind.passed;
+        let eth_type = kind.value;
+        match passed {
+            Passed::Stop(r) => SampledEthernet {
+                passed: Passed::Stop(r),
+                length: 0,
+                src_mac: [0u8; 6],
+                dst_mac: [0u8; 6],
+                eth_type: 0,
+            },
+            Passed::Got(d) => SampledEthernet {
+                passed: Passed::Got(d),
+                length: length,
+                src_mac: src_mac,
+                dst_mac: dst_mac,
+                eth_type: eth_type,
+            },
+        }
+    }
+}
+
+// Format 3: an IPv4 packet.
+pub struct SampledIpv4 {
+    pub passed: Passed,
+    pub length: u32,
+    pub protocol: u32,
+    pub src_ip: u32,
+    pub dst_ip: u32,
+    pub src_port: u32,
+    pub dst_port: u32,
+    pub tcp_flags: u32,
+    pub tos: u32,
+}
+
+impl SampledIpv4 {
+    pub fn parse(c: Cursor, s: &[u8]) -> SampledIpv4
+        requires { ⌜ Inside (now s) c ⌝ }
+        ensures { λ r. ⌜ Reads (layout-of 2 3) (now (s .entry)) c (r .passed) (sampled-ipv4 r) ⌝ }
+    {
+        let row = next::words(Passed::Got(c), s, 8);
+        let passed = row.passed;
+        let words = row.words;
+        match passed {
+            Passed::Stop(r) => SampledIpv4 {
+                passed: Passed::Stop(r),
+                length: 0,
+                protocol: 0,
+                src_ip: 0,
+                dst_ip: 0,
+                src_port: 0,
+                dst_port: 0,
+                tcp_flags: 0,
+                tos: 0,
+            },
+            Passed::Got(d) => SampledIpv4 {
+                passed: Passed::Got(d),
+                length: words[0],
+                protocol: words[1],
+                src_ip: words[2],
+                dst_ip: words[3],
+                src_port: words[4],
+                dst_port: words[5],
+                tcp_flags: words[6],
+                tos: words[7],
+            },
+        }
+    }
+}
+
+// Format 4: an IPv6 packet.
+pub struct SampledIpv6 {
+    pub passed: Passed,
+    pub length: u32,
+    pub protocol: u32,
+    pub src_ip: [u8; 16],
+    pub dst_ip: [u8; 16],
+    pub src_port: u32,
+    pub dst_port: u32,
+    pub tcp_flags: u32,
+    pub priority: u32,
+}
+
+impl SampledIpv6 {
+    fn none(r: Refusal) -> SampledIpv6
+        ensures { λ a. ⌜ (a .passed ≡ Passed.Stop r) × (sampled-ipv6 a ≡ zeros (words 2 ++ bytes sixteen ∷ bytes sixteen ∷ words 4)) ⌝ }
+    {
+        SampledIpv6 {
+            passed: Passed::Stop(r),
+            length: 0,
+            protocol: 0,
+            src_ip: [0u8; 16],
+            dst_ip: [0u8; 16],
+            src_port: 0,
+            dst_port: 0,
+            tcp_flags: 0,
+            priority: 0,
+        }
+    }
+
+    pub fn parse(c: Cursor, s: &[u8]) -> SampledIpv6
+        requires { ⌜ Inside (now s) c ⌝ }
+        ensures { λ r. ⌜ Reads (layout-of 2 4) (now (s .entry)) c (r .passed) (sampled-ipv6 r) ⌝ }
+    {
+        let row = next::words(Passed::Got(c), s, 2);
+        let passed = row.passed;
+        let head = row.words;
+        let src = next::sixteen(passed, s);
+        let passed = src.passed;
+        let src_ip = src.bytes;
+        let dst = next::sixteen(passed, s);
+        let passed = dst.passed;
+        let dst_ip = dst.bytes;
+        let row = next::words(passed, s, 4);
+        let passed = row.passed;
+        let tail = row.words;
+        match passed {
+            Passed::Stop(r) => SampledIpv6::none(r),
+            Passed::Got(d) => SampledIpv6 {
+                passed: Passed::Got(d),
+                length: head[0],
+                protocol: head[1],
+                src_ip: src_ip,
+                dst_ip: dst_ip,
+                src_port: tail[0],
+                dst_port: tail[1],
+                tcp_flags: tail[2],
+                priority: tail[3],
+            },
+        }
+    }
+}
