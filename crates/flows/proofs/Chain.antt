@@ -1,5 +1,5 @@
 -- How items read one after another make a layout: a law for each answer of `next`, and one that joins two of them. Assumes nothing.
-use mathlib.Core.Path.{_≡_, refl, ap, _∙_, sym, subst}
+use mathlib.Core.Path.{_≡_, refl, ap, _∙_, sym}
 use mathlib.Core.Bool.{Bool, true, false, cond}
 use mathlib.Core.List.{List, [], _∷_, _++_, append-nil}
 use Prim.Native.Nat.{ℕ, zero, suc, _+_, _*_, _≤_, _<_}
@@ -11,10 +11,10 @@ use lib.ListN.{length, take, drop, getD, set, replicate, take-append-drop, lengt
 use lib.Seq.{take-take, getD-set-same, getD-set-other}
 use Rattle.reading.specs.Bytes.{be4}
 use Rattle.reading.specs.Script.{Width, six, eight, sixteen, Value, number, octets, part, nothing, Item, word, long, opaque, string}
-use Rattle.reading.specs.Cursor.{Place, Out, got, read-item, times, follow}
+use Rattle.reading.specs.Cursor.{got, read-item, times, follow}
 use Rattle.reading.specs.Layout.{Field, plain, mac, any-word, words, bytes}
 use Rattle.reading.specs.Values.{zeros}
-use Rattle.reading.proofs.Fields.{field-out, fields-out, reads-shown, halts-shown, shown-reads, shown-halts, sole-gives, sole-halts, sole-gave, sole-halted, row-halts, rows-halt, rows-give}
+use Rattle.reading.proofs.Fields.{field-out, reads-shown, halts-shown, shown-reads, shown-halts, sole-gives, sole-halts, sole-gave, sole-halted, row-halts, rows-halt, rows-give}
 use Rattle.reading.proofs.Words.{numbers-from, numbers, run-row, run-cut}
 use Rattle.xdr.specs.declared.Cursor.{Cursor}
 use Rattle.xdr.specs.declared.Refusal.{Refusal}

@@ -1,11 +1,11 @@
 -- What is counted: a list and 1003's segments, by their count word and what follows it; and the segments one by one. Assumes nothing.
-use mathlib.Core.Path.{_≡_, refl, sym, ap, _∙_}
+use mathlib.Core.Path.{_≡_, refl, sym, _∙_}
 use mathlib.Core.List.{List, [], _∷_}
 use Prim.Native.Nat.{ℕ, zero, suc, _-_, _≤_, _<_}
 use native.Mathlib.Omega.{arith}
 use native.Mathlib.Numerals.{sub-one}
 use borrow.Author.Needs.{needs}
-use Rattle.reading.specs.Script.{Value, number, part, Found, nothing, word, Script, give}
+use Rattle.reading.specs.Script.{Value, part, Found, nothing, word, Script, give}
 use Rattle.reading.specs.Cursor.{Place, Out, got, stop, Reader, then, read-item, times, follow}
 use Rattle.reading.specs.Layout.{Field, list, segments, any-word, segment, run-of, field, fields}
 use Rattle.reading.proofs.Fields.{run-out, field-out, fields-out, fields-then, reads-shown, halts-shown, shown-reads, shown-halts, sole-gives, sole-halts}

@@ -25,15 +25,15 @@ use Rattle.flows.specs.Written.{Ready, Put, written, placed, Filled, fil
 
 -- what a pass leaves, in its parts
 module _ {w : Written} {l′ : List ℕ} (pen : Pen) (o : Out Found) (l : List ℕ) (e : written w l′ ≡ placed pen o l) where
-  at-is : w .at ≡ end-of o
+  pub at-is : w .at ≡ end-of o
   unfolding placed
   at-is = ap (λ (x : Put). x .at) e
 
-  next-is : w .next ≡ pen .next + size (ranges-of o)
+  pub next-is : w .next ≡ pen .next + size (ranges-of o)
   unfolding placed
   next-is = ap (λ (x : Put). x .next) e
 
-  store-is : l′ ≡ write l (6 * pen .next) (rows (pen .base + pen .next) (pen .parent) (ranges-of o))
+  pub store-is : l′ ≡ write l (6 * pen .next) (rows (pen .base + pen .next) (pen .parent) (ranges-of o))
   unfolding placed
   store-is = ap (λ (x : Put). x .store) e
 

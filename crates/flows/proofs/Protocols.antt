@@ -9,7 +9,7 @@ use lib.Dec.{eqb}
 use Rattle.reading.specs.Utf8.{_or_}
 use Rattle.reading.specs.Numbers.{known, header-protocols}
 use Rattle.reading.specs.Script.{Value, number, word}
-use Rattle.reading.specs.Cursor.{Place, Out, read-item}
+use Rattle.reading.specs.Cursor.{read-item}
 use Rattle.reading.specs.Layout.{protocol}
 use Rattle.reading.proofs.Items.{tested-cut, tested-got, tested-refused}
 use Rattle.reading.proofs.Fields.{field-out, sole-gives, sole-halts}
@@ -51,19 +51,20 @@ module _ (s : List ℕ) (c : Cursor) {w : Word} (f : word-out w ≡ read-item wo
   unfolding field-out
   no-protocol h = halts (sole-halts protocol s (place c) (sym (tested-cut s (place c) _ 6 (rw h at f))))
 
+  -- by the bounds that the code has
   module _ {v : ℕ} {d : Cursor} (h : w ≡ a-word.Got v d) where
-    pub known-protocol : Inside s c → 1 ≤ v → v ≤ 17 → Then (protocol ∷ []) s (passed.Got c) (passed.Got d) (number v ∷ [])
+    pub known-protocol : {lo hi : ℕ} → Inside s c → lo ≤ v → v ≤ hi → 1 ≤ lo → hi ≤ 17 → Then (protocol ∷ []) s (passed.Got c) (passed.Got d) (number v ∷ [])
     unfolding field-out
-    known-protocol i a b = goes (sole-gives protocol s (place c) (sym (tested-got s (place c) _ 6 (rw h at f) (rw protocols (in-table 17 1 v a (omega arith)))))) (word-inside s c f h i)
+    known-protocol i a b m n = goes (sole-gives protocol s (place c) (sym (tested-got s (place c) _ 6 (rw h at f) (rw protocols (in-table 17 1 v (omega arith) (omega arith)))))) (word-inside s c f h i)
 
     unknown : {p : Passed} {vs : List Value} → known header-protocols v ≡ false → p ≡ passed.Stop (refused 6 c) → Then (protocol ∷ []) s (passed.Got c) p vs
     unfolding field-out
     unknown k e = rw e (halts (sole-halts protocol s (place c) (sym (tested-refused s (place c) _ 6 (rw h at f) k))))
 
-    pub below-protocols : {p : Passed} {vs : List Value} → v < 1 → p ≡ passed.Stop (refused 6 c) → Then (protocol ∷ []) s (passed.Got c) p vs
-    below-protocols l e = unknown (rw protocols (off-table 17 1 v (λ g. absurd (omega arith)))) e
+    pub below-protocols : {lo : ℕ} {p : Passed} {vs : List Value} → v < lo → lo ≤ 1 → p ≡ passed.Stop (refused 6 c) → Then (protocol ∷ []) s (passed.Got c) p vs
+    below-protocols l m e = unknown (rw protocols (off-table 17 1 v (λ g. absurd (omega arith)))) e
 
-    pub above-protocols : {p : Passed} {vs : List Value} → 17 < v → p ≡ passed.Stop (refused 6 c) → Then (protocol ∷ []) s (passed.Got c) p vs
-    above-protocols l e = unknown (rw protocols (off-table 17 1 v (λ g. omega arith))) e
+    pub above-protocols : {hi : ℕ} {p : Passed} {vs : List Value} → hi < v → 17 ≤ hi → p ≡ passed.Stop (refused 6 c) → Then (protocol ∷ []) s (passed.Got c) p vs
+    above-protocols l m e = unknown (rw protocols (off-table 17 1 v (λ g. omega arith))) e
 
 pub ruleset protocols-known = (no-protocol, known-protocol, below-protocols, above-protocols)

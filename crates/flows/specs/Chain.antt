@@ -4,7 +4,7 @@ use mathlib.Core.Path.{_≡_}
 use mathlib.Core.List.{List, [], _∷_}
 use lib.ListN.{getD}
 use Rattle.reading.specs.Script.{Value, number, opaque}
-use Rattle.reading.specs.Cursor.{Out, got}
+use Rattle.reading.specs.Cursor.{got}
 use Rattle.reading.specs.Layout.{Field, plain, str, list, segments}
 use Rattle.reading.proofs.Fields.{fields-out}
 use Rattle.xdr.specs.declared.Cursor.{Cursor}

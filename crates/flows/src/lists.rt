@@ -8,7 +8,6 @@ ghost use Rattle.xdr.specs.Shown.{Inside, Reads, place, span, passed-out};
 ghost use Rattle.flows.specs.Chain.{counted};
 use xdr::Cursor;
 use xdr::Passed;
-use xdr::Refusal;
 use xdr::Span;
 use xdr::Word;
 

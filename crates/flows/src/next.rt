@@ -18,7 +18,6 @@ use xdr::Cursor;
 use xdr::Long;
 use xdr::Part;
 use xdr::Passed;
-use xdr::Refusal;
 use xdr::Span;
 use xdr::Width;
 use xdr::Word;

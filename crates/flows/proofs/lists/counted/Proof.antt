@@ -4,8 +4,8 @@ use Rattle.flows.proofs.lists.counted.Tie as tie
 
 pub counted-spec : {M : Type 1} → statement M
 counted-spec = tie.close (tie.spec
-    (λ c. search counts)  -- enum-known-p lists.rt:26:22
-    (λ c. search counts)  -- enum-known-p-2 lists.rt:30:21
-    (λ c. search counts)  -- returns lists.rt:22:1
-    (λ c. search counts)  -- returns-2 lists.rt:22:1
+    (λ c. search counts)  -- enum-known-p
+    (λ c. search counts)  -- enum-known-p-2
+    (λ c. search counts)  -- returns
+    (λ c. search counts)  -- returns-2
     )

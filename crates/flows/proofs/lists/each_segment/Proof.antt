@@ -19,13 +19,13 @@ each-segment-spec =
     (tie.spec
     Inv-loop
     μ-loop
-    (λ c. search counts)  -- loop-holds lists.rt:71:5
-    (λ c κs. search counts)  -- segment-requires lists.rt:72:15
-    (λ c. search counts)  -- enum-known-r lists.rt:73:26
-    (λ c. search counts)  -- returns lists.rt:73:32
-    (λ c. search counts)  -- enum-known-d lists.rt:74:25
-    (λ c. search counts)  -- sub-left lists.rt:78:16
-    (λ c. search counts)  -- loop-less lists.rt:71:5
-    (λ c. search counts)  -- loop-again lists.rt:71:5
-    (λ c. search counts)  -- returns-2 lists.rt:65:1
+    (λ c. search counts)  -- loop-holds
+    (λ c κs. search counts)  -- segment-requires
+    (λ c. search counts)  -- enum-known-r
+    (λ c. search counts)  -- returns
+    (λ c. search counts)  -- enum-known-d
+    (λ c. search counts)  -- sub-left
+    (λ c. search counts)  -- loop-less
+    (λ c. search counts)  -- loop-again
+    (λ c. search counts)  -- returns-2
     )

@@ -7,11 +7,11 @@ pub first-six-spec : {M : Type 1} → statement M
 first-six-spec =
     tie.close
     (tie.spec
-    (λ c. search needs)  -- array-read-t5 next.rt:155:6
-    (λ c. search needs)  -- array-read-t8 next.rt:155:12
-    (λ c. search needs)  -- array-read-t11 next.rt:155:18
-    (λ c. search needs)  -- array-read-t14 next.rt:155:24
-    (λ c. search needs)  -- array-read-t17 next.rt:155:30
-    (λ c. search needs)  -- array-read-t20 next.rt:155:36
-    (λ c. first-six (c .args .t1) (search needs))  -- returns next.rt:152:1
+    (λ c. search needs)  -- array-read-t5
+    (λ c. search needs)  -- array-read-t8
+    (λ c. search needs)  -- array-read-t11
+    (λ c. search needs)  -- array-read-t14
+    (λ c. search needs)  -- array-read-t17
+    (λ c. search needs)  -- array-read-t20
+    (λ c. first-six (c .args .t1) (search needs))  -- returns
     )

@@ -16,14 +16,14 @@ load8-spec =
     (tie.spec
     Inv-loop
     μ-loop
-    (λ c. search items)  -- loop-holds next.rt:85:5
-    (λ c. search items)  -- mul-be32 next.rt:86:39
-    (λ c. search items)  -- add-be32 next.rt:86:34
-    (λ c κs. search items)  -- be32-requires next.rt:86:20
-    (λ c. search items)  -- mul-words next.rt:86:9
-    (λ c. search items)  -- array-write-words next.rt:86:9
-    (λ c. search items)  -- add-i next.rt:87:9
-    (λ c. search items)  -- loop-less next.rt:85:5
-    (λ c. search items)  -- loop-again next.rt:85:5
-    (λ c. search items)  -- returns next.rt:79:1
+    (λ c. search items)  -- loop-holds
+    (λ c. search items)  -- mul-be32
+    (λ c. search items)  -- add-be32
+    (λ c κs. search items)  -- be32-requires
+    (λ c. search items)  -- mul-words
+    (λ c. search items)  -- array-write-words
+    (λ c. search items)  -- add-i
+    (λ c. search items)  -- loop-less
+    (λ c. search items)  -- loop-again
+    (λ c. search items)  -- returns
     )

@@ -6,13 +6,13 @@ pub words-spec : {M : Type 1} → statement M
 words-spec =
     tie.close
     (tie.spec
-    (λ c. search items)  -- enum-known-p next.rt:99:22
-    (λ c. search items)  -- enum-known-p-2 next.rt:103:21
-    (λ c κs. search items)  -- read-words-requires next.rt:105:19
-    (λ c. search items)  -- enum-known-r next.rt:106:30
-    (λ c. search items)  -- enum-known-d next.rt:110:29
-    (λ c κs. search items)  -- load8-requires next.rt:112:28
-    (λ c. search items)  -- returns next.rt:93:1
-    (λ c. search items)  -- returns-2 next.rt:93:1
-    (λ c. search items)  -- returns-3 next.rt:93:1
+    (λ c. search items)  -- enum-known-p
+    (λ c. search items)  -- enum-known-p-2
+    (λ c κs. search items)  -- read-words-requires
+    (λ c. search items)  -- enum-known-r
+    (λ c. search items)  -- enum-known-d
+    (λ c κs. search items)  -- load8-requires
+    (λ c. search items)  -- returns
+    (λ c. search items)  -- returns-2
+    (λ c. search items)  -- returns-3
     )

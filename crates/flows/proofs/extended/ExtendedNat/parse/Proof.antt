@@ -9,10 +9,10 @@ unfolding layout-of flows
 parse-spec =
     tie.close
     (tie.spec
-    (λ c κs. search steps)  -- address-requires extended.rt:260:13
-    (λ c κs. search steps)  -- address-requires-2 extended.rt:263:13
-    (λ c. search steps)  -- enum-known-passed extended.rt:267:26
-    (λ c. search steps)  -- enum-known-passed-2 extended.rt:278:25
-    (λ c. search rows)  -- returns extended.rt:256:5
-    (λ c. search rows)  -- returns-2 extended.rt:256:5
+    (λ c κs. search steps)  -- address-requires
+    (λ c κs. search steps)  -- address-requires-2
+    (λ c. search steps)  -- enum-known-passed
+    (λ c. search steps)  -- enum-known-passed-2
+    (λ c. search rows)  -- returns
+    (λ c. search rows)  -- returns-2
     )

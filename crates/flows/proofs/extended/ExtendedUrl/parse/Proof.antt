@@ -9,11 +9,11 @@ unfolding layout-of flows
 parse-spec =
     tie.close
     (tie.spec
-    (λ c κs. search steps)  -- word-requires extended.rt:222:13
-    (λ c κs. search steps)  -- range-requires extended.rt:225:13
-    (λ c κs. search steps)  -- range-requires-2 extended.rt:228:13
-    (λ c. search steps)  -- enum-known-passed extended.rt:232:26
-    (λ c. search steps)  -- enum-known-passed-2 extended.rt:238:25
-    (λ c. search rows)  -- returns extended.rt:218:5
-    (λ c. search rows)  -- returns-2 extended.rt:218:5
+    (λ c κs. search steps)  -- word-requires
+    (λ c κs. search steps)  -- range-requires
+    (λ c κs. search steps)  -- range-requires-2
+    (λ c. search steps)  -- enum-known-passed
+    (λ c. search steps)  -- enum-known-passed-2
+    (λ c. search rows)  -- returns
+    (λ c. search rows)  -- returns-2
     )

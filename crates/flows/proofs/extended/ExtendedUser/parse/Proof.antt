@@ -9,13 +9,13 @@ unfolding layout-of flows
 parse-spec =
     tie.close
     (tie.spec
-    (λ c κs. search steps)  -- word-requires extended.rt:184:13
-    (λ c κs. search steps)  -- range-requires extended.rt:187:13
-    (λ c κs. search steps)  -- word-requires-2 extended.rt:190:13
-    (λ c κs. search steps)  -- range-requires-2 extended.rt:193:13
-    (λ c. search steps)  -- enum-known-passed extended.rt:197:26
-    (λ c κs. search steps)  -- none-requires extended.rt:197:32
-    (λ c. search steps)  -- enum-known-passed-2 extended.rt:198:25
-    (λ c. search rows)  -- returns extended.rt:180:5
-    (λ c. search rows)  -- returns-2 extended.rt:180:5
+    (λ c κs. search steps)  -- word-requires
+    (λ c κs. search steps)  -- range-requires
+    (λ c κs. search steps)  -- word-requires-2
+    (λ c κs. search steps)  -- range-requires-2
+    (λ c. search steps)  -- enum-known-passed
+    (λ c κs. search steps)  -- none-requires
+    (λ c. search steps)  -- enum-known-passed-2
+    (λ c. search rows)  -- returns
+    (λ c. search rows)  -- returns-2
     )

@@ -4,8 +4,8 @@ use Rattle.flows.proofs.extended.Route.parse.Tie as tie
 
 pub parse-spec : {M : Type 1} → statement M
 parse-spec = tie.close (tie.spec
-    (λ c κs. search steps)  -- range-requires extended.rt:106:13
-    (λ c κs. search steps)  -- range-requires-2 extended.rt:109:13
-    (λ c κs. search steps)  -- word-requires extended.rt:112:13
-    (λ c. search rows)  -- returns extended.rt:102:5
+    (λ c κs. search steps)  -- range-requires
+    (λ c κs. search steps)  -- range-requires-2
+    (λ c κs. search steps)  -- word-requires
+    (λ c. search rows)  -- returns
     )

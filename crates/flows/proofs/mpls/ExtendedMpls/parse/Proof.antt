@@ -9,12 +9,12 @@ unfolding layout-of flows
 parse-spec =
     tie.close
     (tie.spec
-    (λ c κs. search steps)  -- address-requires mpls.rt:44:13
-    (λ c κs. search steps)  -- range-requires mpls.rt:47:13
-    (λ c κs. search steps)  -- range-requires-2 mpls.rt:50:13
-    (λ c. search steps)  -- enum-known-passed mpls.rt:54:26
-    (λ c κs. search steps)  -- none-requires mpls.rt:54:32
-    (λ c. search steps)  -- enum-known-passed-2 mpls.rt:55:25
-    (λ c. search rows)  -- returns mpls.rt:40:5
-    (λ c. search rows)  -- returns-2 mpls.rt:40:5
+    (λ c κs. search steps)  -- address-requires
+    (λ c κs. search steps)  -- range-requires
+    (λ c κs. search steps)  -- range-requires-2
+    (λ c. search steps)  -- enum-known-passed
+    (λ c κs. search steps)  -- none-requires
+    (λ c. search steps)  -- enum-known-passed-2
+    (λ c. search rows)  -- returns
+    (λ c. search rows)  -- returns-2
     )

@@ -8,9 +8,9 @@ pub parse-spec : {M : Type 1} → statement M
 unfolding layout-of flows
 parse-spec =
     tie.close (tie.spec
-    (λ c κs. search steps)  -- word-requires mpls.rt:187:13
-    (λ c. search steps)  -- enum-known-passed mpls.rt:191:26
-    (λ c. search steps)  -- enum-known-passed-2 mpls.rt:195:25
-    (λ c. search rows)  -- returns mpls.rt:183:5
-    (λ c. search rows)  -- returns-2 mpls.rt:183:5
+    (λ c κs. search steps)  -- word-requires
+    (λ c. search steps)  -- enum-known-passed
+    (λ c. search steps)  -- enum-known-passed-2
+    (λ c. search rows)  -- returns
+    (λ c. search rows)  -- returns-2
     )

@@ -9,12 +9,12 @@ unfolding layout-of flows
 parse-spec =
     tie.close
     (tie.spec
-    (λ c κs. search steps)  -- range-requires mpls.rt:78:13
-    (λ c κs. search steps)  -- words-requires mpls.rt:81:13
-    (λ c. search steps)  -- enum-known-passed mpls.rt:85:26
-    (λ c. search steps)  -- enum-known-passed-2 mpls.rt:91:25
-    (λ c. search steps)  -- array-read-t19 mpls.rt:94:28
-    (λ c. search steps)  -- array-read-t22 mpls.rt:95:29
-    (λ c. search rows)  -- returns mpls.rt:74:5
-    (λ c. search rows)  -- returns-2 mpls.rt:74:5
+    (λ c κs. search steps)  -- range-requires
+    (λ c κs. search steps)  -- words-requires
+    (λ c. search steps)  -- enum-known-passed
+    (λ c. search steps)  -- enum-known-passed-2
+    (λ c. search steps)  -- array-read-t19
+    (λ c. search steps)  -- array-read-t22
+    (λ c. search rows)  -- returns
+    (λ c. search rows)  -- returns-2
     )

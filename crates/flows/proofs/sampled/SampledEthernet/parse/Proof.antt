@@ -9,12 +9,12 @@ unfolding layout-of flows
 parse-spec =
     tie.close
     (tie.spec
-    (λ c κs. search steps)  -- word-requires sampled.rt:110:13
-    (λ c κs. search steps)  -- six-requires sampled.rt:113:13
-    (λ c κs. search steps)  -- six-requires-2 sampled.rt:116:13
-    (λ c κs. search steps)  -- word-requires-2 sampled.rt:119:13
-    (λ c. search steps)  -- enum-known-passed sampled.rt:123:26
-    (λ c. search steps)  -- enum-known-passed-2 sampled.rt:130:25
-    (λ c. search rows)  -- returns sampled.rt:106:5
-    (λ c. search rows)  -- returns-2 sampled.rt:106:5
+    (λ c κs. search steps)  -- word-requires
+    (λ c κs. search steps)  -- six-requires
+    (λ c κs. search steps)  -- six-requires-2
+    (λ c κs. search steps)  -- word-requires-2
+    (λ c. search steps)  -- enum-known-passed
+    (λ c. search steps)  -- enum-known-passed-2
+    (λ c. search rows)  -- returns
+    (λ c. search rows)  -- returns-2
     )

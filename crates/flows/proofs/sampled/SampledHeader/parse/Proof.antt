@@ -9,13 +9,13 @@ unfolding layout-of flows
 parse-spec =
     tie.close
     (tie.spec
-    (λ c κs. search steps)  -- protocol-requires sampled.rt:68:13
-    (λ c κs. search steps)  -- words-requires sampled.rt:71:13
-    (λ c κs. search steps)  -- range-requires sampled.rt:74:13
-    (λ c. search steps)  -- enum-known-passed sampled.rt:78:26
-    (λ c. search steps)  -- enum-known-passed-2 sampled.rt:85:25
-    (λ c. search steps)  -- array-read-t21 sampled.rt:88:31
-    (λ c. search steps)  -- array-read-t24 sampled.rt:89:27
-    (λ c. search rows)  -- returns sampled.rt:64:5
-    (λ c. search rows)  -- returns-2 sampled.rt:64:5
+    (λ c κs. search steps)  -- protocol-requires
+    (λ c κs. search steps)  -- words-requires
+    (λ c κs. search steps)  -- range-requires
+    (λ c. search steps)  -- enum-known-passed
+    (λ c. search steps)  -- enum-known-passed-2
+    (λ c. search steps)  -- array-read-t21
+    (λ c. search steps)  -- array-read-t24
+    (λ c. search rows)  -- returns
+    (λ c. search rows)  -- returns-2
     )

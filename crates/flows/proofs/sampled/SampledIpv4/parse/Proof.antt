@@ -9,17 +9,17 @@ unfolding layout-of flows
 parse-spec =
     tie.close
     (tie.spec
-    (λ c κs. search steps)  -- words-requires sampled.rt:159:13
-    (λ c. search steps)  -- enum-known-passed sampled.rt:163:26
-    (λ c. search steps)  -- enum-known-passed-2 sampled.rt:174:25
-    (λ c. search steps)  -- array-read-t14 sampled.rt:176:25
-    (λ c. search steps)  -- array-read-t17 sampled.rt:177:27
-    (λ c. search steps)  -- array-read-t20 sampled.rt:178:25
-    (λ c. search steps)  -- array-read-t23 sampled.rt:179:25
-    (λ c. search steps)  -- array-read-t26 sampled.rt:180:27
-    (λ c. search steps)  -- array-read-t29 sampled.rt:181:27
-    (λ c. search steps)  -- array-read-t32 sampled.rt:182:28
-    (λ c. search steps)  -- array-read-t35 sampled.rt:183:22
-    (λ c. search rows)  -- returns sampled.rt:155:5
-    (λ c. search rows)  -- returns-2 sampled.rt:155:5
+    (λ c κs. search steps)  -- words-requires
+    (λ c. search steps)  -- enum-known-passed
+    (λ c. search steps)  -- enum-known-passed-2
+    (λ c. search steps)  -- array-read-t14
+    (λ c. search steps)  -- array-read-t17
+    (λ c. search steps)  -- array-read-t20
+    (λ c. search steps)  -- array-read-t23
+    (λ c. search steps)  -- array-read-t26
+    (λ c. search steps)  -- array-read-t29
+    (λ c. search steps)  -- array-read-t32
+    (λ c. search steps)  -- array-read-t35
+    (λ c. search rows)  -- returns
+    (λ c. search rows)  -- returns-2
     )

@@ -8,9 +8,9 @@ pub parse-spec : {M : Type 1} → statement M
 unfolding layout-of flows
 parse-spec =
     tie.close (tie.spec
-    (λ c κs. search steps)  -- word-requires wireless.rt:196:13
-    (λ c. search steps)  -- enum-known-passed wireless.rt:200:26
-    (λ c. search steps)  -- enum-known-passed-2 wireless.rt:204:25
-    (λ c. search rows)  -- returns wireless.rt:192:5
-    (λ c. search rows)  -- returns-2 wireless.rt:192:5
+    (λ c κs. search steps)  -- word-requires
+    (λ c. search steps)  -- enum-known-passed
+    (λ c. search steps)  -- enum-known-passed-2
+    (λ c. search rows)  -- returns
+    (λ c. search rows)  -- returns-2
     )

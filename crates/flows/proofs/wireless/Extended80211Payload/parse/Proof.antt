@@ -9,10 +9,10 @@ unfolding layout-of flows
 parse-spec =
     tie.close
     (tie.spec
-    (λ c κs. search steps)  -- word-requires wireless.rt:29:13
-    (λ c κs. search steps)  -- range-requires wireless.rt:32:13
-    (λ c. search steps)  -- enum-known-passed wireless.rt:36:26
-    (λ c. search steps)  -- enum-known-passed-2 wireless.rt:41:25
-    (λ c. search rows)  -- returns wireless.rt:25:5
-    (λ c. search rows)  -- returns-2 wireless.rt:25:5
+    (λ c κs. search steps)  -- word-requires
+    (λ c κs. search steps)  -- range-requires
+    (λ c. search steps)  -- enum-known-passed
+    (λ c. search steps)  -- enum-known-passed-2
+    (λ c. search rows)  -- returns
+    (λ c. search rows)  -- returns-2
     )

@@ -1,0 +1,36 @@
+use Prim.Native.Nat.{ℕ}
+use mathlib.Core.Path.{_≡_}
+use lib.ListN.{length}
+use Rattle.reading.specs.Cursor.{times, follow}
+use Rattle.reading.specs.Layout.{counter, sample}
+use Rattle.reading.specs.Answer.{from}
+use Rattle.flows.specs.Written as written
+use Rattle.flows.specs.Written.{Ready}
+use Rattle.flows.proofs.Placing.{a-pen, put-done}
+use Rattle.samples.proofs.Placed as placed
+use Rattle.samples.proofs.Placed.{writing}
+use Rattle.samples.proofs.put.put_samples.Statement.{statement}
+use Rattle.samples.proofs.put.put_samples.Tie as tie
+
+abbrev Inv-loop : tie.InvT-loop
+Inv-loop s at n store₀ base parent cur₀ next₀ rest₀ store cur next rest =
+    (length store ≡ length store₀) × (Ready s store (a-pen base parent next) (times rest (follow (sample 8)) s (from cur)))
+    × (written.placed (a-pen base parent next) (times rest (follow (sample 8)) s (from cur)) store ≡ written.placed (a-pen base parent next₀) (times n (follow (sample 8)) s (from at)) store₀)
+
+abbrev μ-loop : tie.MeasureT-loop
+μ-loop s at n store₀ base parent cur₀ next₀ rest₀ store cur next rest = rest
+
+pub put-samples-spec : {M : Type 1} → statement M
+put-samples-spec =
+    tie.close
+    (tie.spec
+    Inv-loop
+    μ-loop
+    (λ c. search writing)  -- loop-holds put.rt:163:5
+    (λ c κs. search writing)  -- put-sample-requires put.rt:164:13
+    (λ c. search writing)  -- sub-rest put.rt:176:16
+    (λ c. search writing)  -- loop-less put.rt:163:5
+    (λ c. search writing)  -- loop-again put.rt:163:5
+    (λ c. search writing)  -- same-length put.rt:154:1
+    (λ c. put-done _ _ _ _ _ _ _ _ (c .before .loop .inv .2) (c .loop-test .left))  -- returns put.rt:154:1
+    )

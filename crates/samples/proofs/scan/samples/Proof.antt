@@ -1,0 +1,34 @@
+use Prim.Native.Nat.{ℕ}
+use mathlib.Core.Path.{_≡_}
+use Rattle.reading.specs.Cursor.{times, follow}
+use Rattle.reading.specs.Layout.{counter, sample}
+use Rattle.reading.proofs.Counts.{counted}
+use Rattle.xdr.specs.Shown.{place}
+use Rattle.flows.specs.Scanned.{Scan}
+use Rattle.samples.proofs.Sampling.{sampling}
+use Rattle.samples.proofs.scan.samples.Statement.{statement}
+use Rattle.samples.proofs.scan.samples.Tie as tie
+
+abbrev Inv-loop : tie.InvT-loop
+Inv-loop s n count cur₀ found₀ rest₀ cur found rest =
+    (Scan s cur found) × (counted found (times rest (follow (sample 8)) s (place cur)) ≡ counted found₀ (times n (follow (sample 8)) s (place cur₀)))
+
+abbrev μ-loop : tie.MeasureT-loop
+μ-loop s n count cur₀ found₀ rest₀ cur found rest = rest
+
+pub samples-spec : {M : Type 1} → statement M
+samples-spec =
+    tie.close
+    (tie.spec
+    Inv-loop
+    μ-loop
+    (λ c. search sampling)  -- loop-holds scan.rt:153:5
+    (λ c κs. search sampling)  -- one-sample-requires scan.rt:154:15
+    (λ c. search sampling)  -- enum-known-r scan.rt:155:27
+    (λ c. search sampling)  -- returns scan.rt:156:17
+    (λ c. search sampling)  -- enum-known-d scan.rt:158:26
+    (λ c. search sampling)  -- sub-rest scan.rt:163:16
+    (λ c. search sampling)  -- loop-less scan.rt:153:5
+    (λ c. search sampling)  -- loop-again scan.rt:153:5
+    (λ c. search sampling)  -- returns-2 scan.rt:146:1
+    )

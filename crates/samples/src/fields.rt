@@ -1,0 +1,271 @@
+// The fields of a sample before its records, a reader for each format.
+ghost use mathlib.Core.Path.{_≡_};
+ghost use Rattle.reading.specs.Layout.{words};
+ghost use Rattle.reading.specs.Values.{zeros};
+ghost use Rattle.reading.specs.Answer.{layout-of};
+ghost use Rattle.xdr.specs.Shown.{Inside, Reads};
+ghost use Rattle.samples.specs.Shown.{flow-sample, counters-sample, flow-sample-expanded, counters-sample-expanded, discarded-packet};
+use flows::next;
+use numbers::DataSource;
+use numbers::Interface;
+use xdr::Cursor;
+use xdr::Passed;
+use xdr::Refusal;
+
+// A source whose type and index have a word each.
+pub struct DataSourceExpanded {
+    pub source_id_type: u32,
+    pub source_id_index: u32,
+}
+
+// An interface whose format and value have a word each.
+pub struct InterfaceExpanded {
+    pub format: u32,
+    pub value: u32,
+}
+
+// Format 1: packets sampled from a source.
+pub struct FlowSample {
+    pub passed: Passed,
+    pub sequence_number: u32,
+    pub source_id: DataSource,
+    pub sampling_rate: u32,
+    pub sample_pool: u32,
+    pub drops: u32,
+    pub input: Interface,
+    pub output: Interface,
+    pub num_records: u32,
+}
+
+impl FlowSample {
+    pub fn parse(c: Cursor, s: &[u8]) -> FlowSample
+        requires { ⌜ Inside (now s) c ⌝ }
+        ensures { λ r. ⌜ Reads (layout-of 1 1) (now (s .entry)) c (r .passed) (flow-sample r) ⌝ }
+    {
+        let row = next::words(Passed::Got(c), s, 8);
+        let passed = row.passed;
+        let words = row.words;
+        match passed {
+            Passed::Stop(r) => FlowSample {
+                passed: Passed::Stop(r),
+                sequence_number: 0,
+                source_id: DataSource(0),
+                sampling_rate: 0,
+                sample_pool: 0,
+                drops: 0,
+                input: Interface(0),
+                output: Interface(0),
+                num_records: 0,
+            },
+            Passed::Got(d) => FlowSample {
+                passed: Passed::Got(d),
+                sequence_number: words[0],
+                source_id: DataSource(words[1]),
+                sampling_rate: words[2],
+                sample_pool: words[3],
+                drops: words[4],
+                input: Interface(words[5]),
+                output: Interface(words[6]),
+                num_records: words[7],
+            },
+        }
+    }
+}
+
+// Format 2: counters of a source.
+pub struct CountersSample {
+    pub passed: Passed,
+    pub sequence_number: u32,
+    pub source_id: DataSource,
+    pub num_records: u32,
+}
+
+impl CountersSample {
+    pub fn parse(c: Cursor, s: &[u8]) -> CountersSample
+        requires { ⌜ Inside (now s) c ⌝ }
+        ensures { λ r. ⌜ Reads (layout-of 1 2) (now (s .entry)) c (r .passed) (counters-sample r) ⌝ }
+    {
+        let row = next::words(Passed::Got(c), s, 3);
+        let passed = row.passed;
+        let words = row.words;
+        match passed {
+            Passed::Stop(r) => CountersSample {
+                passed: Passed::Stop(r),
+                sequence_number: 0,
+                source_id: DataSource(0),
+                num_records: 0,
+            },
+            Passed::Got(d) => CountersSample {
+                passed: Passed::Got(d),
+                sequence_number: words[0],
+                source_id: DataSource(words[1]),
+                num_records: words[2],
+            },
+        }
+    }
+}
+
+// Format 3: as format 1, with two words each for the source and the interfaces.
+pub struct FlowSampleExpanded {
+    pub passed: Passed,
+    pub sequence_number: u32,
+    pub source_id: DataSourceExpanded,
+    pub sampling_rate: u32,
+    pub sample_pool: u32,
+    pub drops: u32,
+    pub input: InterfaceExpanded,
+    pub output: InterfaceExpanded,
+    pub num_records: u32,
+}
+
+impl FlowSampleExpanded {
+    fn none(r: Refusal) -> FlowSampleExpanded
+        ensures { λ a. ⌜ (a .passed ≡ Passed.Stop r) × (flow-sample-expanded a ≡ zeros (words 11)) ⌝ }
+    {
+        FlowSampleExpanded {
+            passed: Passed::Stop(r),
+            sequence_number: 0,
+            source_id: DataSourceExpanded {
+                source_id_type: 0,
+                source_id_index: 0,
+            },
+            sampling_rate: 0,
+            sample_pool: 0,
+            drops: 0,
+            input: InterfaceExpanded {
+                format: 0,
+                value: 0,
+            },
+            output: InterfaceExpanded {
+                format: 0,
+                value: 0,
+            },
+            num_records: 0,
+        }
+    }
+
+    pub fn parse(c: Cursor, s: &[u8]) -> FlowSampleExpanded
+        requires { ⌜ Inside (now s) c ⌝ }
+        ensures { λ r. ⌜ Reads (layout-of 1 3) (now (s .entry)) c (r .passed) (flow-sample-expanded r) ⌝ }
+    {
+        let row = next::words(Passed::Got(c), s, 8);
+        let passed = row.passed;
+        let first = row.words;
+        let row = next::words(passed, s, 3);
+        let passed = row.passed;
+        let last = row.words;
+        match passed {
+            Passed::Stop(r) => FlowSampleExpanded::none(r),
+            Passed::Got(d) => FlowSampleExpanded {
+                passed: Passed::Got(d),
+                sequence_number: first[0],
+                source_id: DataSourceExpanded {
+                    source_id_type: first[1],
+                    source_id_index: first[2],
+                },
+                sampling_rate: first[3],
+                sample_pool: first[4],
+                drops: first[5],
+                input: InterfaceExpanded {
+                    format: first[6],
+                    value: first[7],
+                },
+                output: InterfaceExpanded {
+                    format: last[0],
+                    value: last[1],
+                },
+                num_records: last[2],
+            },
+        }
+    }
+}
+
+// Format 4: as format 2, with two words for the source.
+pub struct CountersSampleExpanded {
+    pub passed: Passed,
+    pub sequence_number: u32,
+    pub source_id: DataSourceExpanded,
+    pub num_records: u32,
+}
+
+impl CountersSampleExpanded {
+    pub fn parse(c: Cursor, s: &[u8]) -> CountersSampleExpanded
+        requires { ⌜ Inside (now s) c ⌝ }
+        ensures { λ r. ⌜ Reads (layout-of 1 4) (now (s .entry)) c (r .passed) (counters-sample-expanded r) ⌝ }
+    {
+        let row = next::words(Passed::Got(c), s, 4);
+        let passed = row.passed;
+        let words = row.words;
+        match passed {
+            Passed::Stop(r) => CountersSampleExpanded {
+                passed: Passed::Stop(r),
+                sequence_number: 0,
+                source_id: DataSourceExpanded {
+                    source_id_type: 0,
+                    source_id_index: 0,
+                },
+                num_records: 0,
+            },
+            Passed::Got(d) => CountersSampleExpanded {
+                passed: Passed::Got(d),
+                sequence_number: words[0],
+                source_id: DataSourceExpanded {
+                    source_id_type: words[1],
+                    source_id_index: words[2],
+                },
+                num_records: words[3],
+            },
+        }
+    }
+}
+
+// Format 5: packets that were discarded. Its interfaces are plain indices, as the crate has them.
+pub struct DiscardedPacket {
+    pub passed: Passed,
+    pub sequence_number: u32,
+    pub source_id: DataSourceExpanded,
+    pub drops: u32,
+    pub input_ifindex: u32,
+    pub output_ifindex: u32,
+    pub reason: u32,
+    pub num_records: u32,
+}
+
+impl DiscardedPacket {
+    pub fn parse(c: Cursor, s: &[u8]) -> DiscardedPacket
+        requires { ⌜ Inside (now s) c ⌝ }
+        ensures { λ r. ⌜ Reads (layout-of 1 5) (now (s .entry)) c (r .passed) (discarded-packet r) ⌝ }
+    {
+        let row = next::words(Passed::Got(c), s, 8);
+        let passed = row.passed;
+        let words = row.words;
+        match passed {
+            Passed::Stop(r) => DiscardedPacket {
+                passed: Passed::Stop(r),
+                sequence_number: 0,
+                source_id: DataSourceExpanded {
+                    source_id_type: 0,
+                    source_id_index: 0,
+                },
+                drops: 0,
+                input_ifindex: 0,
+                output_ifindex: 0,
+                reason: 0,
+                num_records: 0,
+            },
+            Passed::Got(d) => DiscardedPacket {
+                passed: Passed::Got(d),
+                sequence_number: words[0],
+                source_id: DataSourceExpanded {
+                    source_id_type: words[1],
+                    source_id_index: words[2],
+                },
+                drops: words[3],
+                input_ifindex: words[4],
+                output_ifindex: words[5],
+                reason: words[6],
+                num_records: words[7],
+            },
+        }
+    }
+}

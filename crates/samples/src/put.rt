@@ -1,0 +1,182 @@
+// The second pass over samples: descriptors, written by frames alone.
+ghost use mathlib.Core.Path.{_≡_};
+ghost use Prim.Native.Nat.{_≤_};
+ghost use lib.ListN.{length};
+ghost use Rattle.reading.specs.Cursor.{times, follow};
+ghost use Rattle.reading.specs.Layout.{opened, counter, samples, sample};
+ghost use Rattle.reading.specs.Answer.{from};
+ghost use Rattle.flows.specs.Written.{Ready, written, placed, filled, fills};
+use flows::put::Descriptor;
+use flows::put::Pen;
+use flows::put::Written;
+use flows::put::put;
+use flows::put::put_flow_records;
+use xdr::load;
+
+// One counter record.
+fn put_counter_record(s: &[u8], at: usize, store: &mut [u32], pen: Pen) -> Written
+    requires { ⌜ Ready (now s) (now store) pen (follow counter (now s) (from at)) ⌝ }
+    ensures { λ r. ⌜ written r (now (store .exit)) ≡ placed pen (follow counter (now (s .entry)) (from at)) (now (store .entry)) ⌝ }
+{
+    let format = load::be32(s, at);
+    let length = load::be32(s, at + 4);
+    let count = length as usize;
+    let start = at + 8;
+    let i = pen.next;
+    put(
+        store,
+        i,
+        Descriptor {
+            kind: 3,
+            format: format,
+            start: start as u32,
+            length: length,
+            parent: pen.parent,
+            depth: 1,
+        },
+    );
+    Written {
+        at: start + count + (4 - count % 4) % 4,
+        next: i + 1,
+    }
+}
+
+// n counter records in a row.
+fn put_counter_records(s: &[u8], at: usize, n: u32, store: &mut [u32], pen: Pen) -> Written
+    requires { ⌜ Ready (now s) (now store) pen (times n (follow counter) (now s) (from at)) ⌝ }
+    ensures { λ r. ⌜ written r (now (store .exit)) ≡ placed pen (times n (follow counter) (now (s .entry)) (from at)) (now (store .entry)) ⌝ }
+{
+    let base = pen.base;
+    let parent = pen.parent;
+    let mut cur = at;
+    let mut next = pen.next;
+    let mut rest = n;
+    while 0 < rest {
+        let w = put_counter_record(
+            s,
+            cur,
+            &mut *store,
+            Pen {
+                base: base,
+                parent: parent,
+                next: next,
+            },
+        );
+        cur = w.at;
+        next = w.next;
+        rest = rest - 1;
+    }
+    Written {
+        at: cur,
+        next: next,
+    }
+}
+
+// What a sample of this format holds: where its records begin, and where their count stands, go by the format.
+fn put_sample_data(s: &[u8], at: usize, format: u32, store: &mut [u32], pen: Pen) -> usize
+    requires { ⌜ at ≤ length (now s) ⌝ }
+    requires { ⌜ Ready (now s) (now store) pen (follow (opened (samples 8) format) (now s) (from at)) ⌝ }
+    ensures { λ r. ⌜ filled r (now (store .exit)) ≡ fills pen (follow (opened (samples 8) format) (now (s .entry)) (from at)) (now (store .entry)) ⌝ }
+{
+    match format {
+        1 => {
+            let n = load::be32(s, at + 28);
+            let w = put_flow_records(s, at + 32, n, 8, store, pen);
+            w.next
+        }
+        2 => {
+            let n = load::be32(s, at + 8);
+            let w = put_counter_records(s, at + 12, n, store, pen);
+            w.next
+        }
+        3 => {
+            let n = load::be32(s, at + 40);
+            let w = put_flow_records(s, at + 44, n, 8, store, pen);
+            w.next
+        }
+        4 => {
+            let n = load::be32(s, at + 12);
+            let w = put_counter_records(s, at + 16, n, store, pen);
+            w.next
+        }
+        5 => {
+            let n = load::be32(s, at + 28);
+            let w = put_flow_records(s, at + 32, n, 8, store, pen);
+            w.next
+        }
+        _ => pen.next,
+    }
+}
+
+// One sample: what it holds first, then its own descriptor before that.
+fn put_sample(s: &[u8], at: usize, store: &mut [u32], pen: Pen) -> Written
+    requires { ⌜ Ready (now s) (now store) pen (follow (sample 8) (now s) (from at)) ⌝ }
+    ensures { λ r. ⌜ written r (now (store .exit)) ≡ placed pen (follow (sample 8) (now (s .entry)) (from at)) (now (store .entry)) ⌝ }
+{
+    let format = load::be32(s, at);
+    let length = load::be32(s, at + 4);
+    let count = length as usize;
+    let start = at + 8;
+    let end = start + count;
+    let i = pen.next;
+    let base = pen.base;
+    let me = base + i as u32;
+    let next = put_sample_data(
+        &s[..end],
+        start,
+        format,
+        &mut *store,
+        Pen {
+            base: base,
+            parent: me,
+            next: i + 1,
+        },
+    );
+    put(
+        store,
+        i,
+        Descriptor {
+            kind: 1,
+            format: format,
+            start: start as u32,
+            length: length,
+            parent: pen.parent,
+            depth: 0,
+        },
+    );
+    Written {
+        at: end + (4 - count % 4) % 4,
+        next: next,
+    }
+}
+
+// n samples in a row.
+pub fn put_samples(s: &[u8], at: usize, n: u32, store: &mut [u32], pen: Pen) -> Written
+    requires { ⌜ Ready (now s) (now store) pen (times n (follow (sample 8)) (now s) (from at)) ⌝ }
+    ensures { λ r. ⌜ written r (now (store .exit)) ≡ placed pen (times n (follow (sample 8)) (now (s .entry)) (from at)) (now (store .entry)) ⌝ }
+{
+    let base = pen.base;
+    let parent = pen.parent;
+    let mut cur = at;
+    let mut next = pen.next;
+    let mut rest = n;
+    while 0 < rest {
+        let w = put_sample(
+            s,
+            cur,
+            &mut *store,
+            Pen {
+                base: base,
+                parent: parent,
+                next: next,
+            },
+        );
+        cur = w.at;
+        next = w.next;
+        rest = rest - 1;
+    }
+    Written {
+        at: cur,
+        next: next,
+    }
+}

@@ -1,0 +1,166 @@
+// The first pass over samples: judged and counted, with nothing kept.
+ghost use mathlib.Core.Path.{_≡_};
+ghost use Rattle.reading.specs.Cursor.{times, follow};
+ghost use Rattle.reading.specs.Layout.{opened, flow, counter, samples, sample};
+ghost use Rattle.reading.proofs.Counts.{counted};
+ghost use Rattle.xdr.specs.Shown.{place};
+ghost use Rattle.flows.specs.Scanned.{Scan, scanned-out};
+ghost use Rattle.flows.specs.Chain.{Within};
+ghost use Rattle.samples.specs.Held.{Counted, rest-of};
+use crate::fields::CountersSample;
+use crate::fields::CountersSampleExpanded;
+use crate::fields::DiscardedPacket;
+use crate::fields::FlowSample;
+use crate::fields::FlowSampleExpanded;
+use flows::frames::Frame;
+use flows::frames::Scanned;
+use flows::records;
+use xdr::Cursor;
+use xdr::Passed;
+
+// One counter record, kept raw.
+fn counter_record(s: &[u8], c: Cursor, count: usize) -> Scanned
+    requires { ⌜ Scan (now s) c count ⌝ }
+    ensures { λ r. ⌜ scanned-out r ≡ counted count (follow counter (now (s .entry)) (place c)) ⌝ }
+{
+    match Frame::parse(c, s) {
+        Frame::Stop(r) => Scanned::Stop(r),
+        Frame::Got(_, _, d) => Scanned::Got(d, count + 1),
+    }
+}
+
+// n counter records in a row.
+fn counter_records(s: &[u8], c: Cursor, n: u32, count: usize) -> Scanned
+    requires { ⌜ Scan (now s) c count ⌝ }
+    ensures { λ r. ⌜ scanned-out r ≡ counted count (times n (follow counter) (now (s .entry)) (place c)) ⌝ }
+{
+    let mut cur = c;
+    let mut found = count;
+    let mut rest = n;
+    while 0 < rest {
+        match counter_record(s, cur, found) {
+            Scanned::Stop(r) => {
+                return Scanned::Stop(r);
+            }
+            Scanned::Got(d, k) => {
+                cur = d;
+                found = k;
+            }
+        }
+        rest = rest - 1;
+    }
+    Scanned::Got(cur, found)
+}
+
+// The flow records behind a sample's fields, where those were read.
+fn flows_behind(s: &[u8], p: Passed, n: u32, count: usize) -> Scanned
+    requires { ⌜ Counted (now s) p count ⌝ }
+    ensures { λ r. ⌜ scanned-out r ≡ rest-of (flow 8 8) (now (s .entry)) p n count ⌝ }
+{
+    match p {
+        Passed::Stop(r) => Scanned::Stop(r),
+        Passed::Got(d) => records::flow_records(s, d, n, 8, count),
+    }
+}
+
+// The counter records behind a sample's fields, where those were read.
+fn counters_behind(s: &[u8], p: Passed, n: u32, count: usize) -> Scanned
+    requires { ⌜ Counted (now s) p count ⌝ }
+    ensures { λ r. ⌜ scanned-out r ≡ rest-of counter (now (s .entry)) p n count ⌝ }
+{
+    match p {
+        Passed::Stop(r) => Scanned::Stop(r),
+        Passed::Got(d) => counter_records(s, d, n, count),
+    }
+}
+
+// What a sample of this format holds.
+fn sample_data(s: &[u8], c: Cursor, format: u32, count: usize) -> Scanned
+    requires { ⌜ Scan (now s) c count ⌝ }
+    ensures { λ r. ⌜ scanned-out r ≡ counted count (follow (opened (samples 8) format) (now (s .entry)) (place c)) ⌝ }
+{
+    match format {
+        1 => {
+            let h = FlowSample::parse(c, s);
+            let passed = h.passed;
+            let n = h.num_records;
+            flows_behind(s, passed, n, count)
+        }
+        2 => {
+            let h = CountersSample::parse(c, s);
+            let passed = h.passed;
+            let n = h.num_records;
+            counters_behind(s, passed, n, count)
+        }
+        3 => {
+            let h = FlowSampleExpanded::parse(c, s);
+            let passed = h.passed;
+            let n = h.num_records;
+            flows_behind(s, passed, n, count)
+        }
+        4 => {
+            let h = CountersSampleExpanded::parse(c, s);
+            let passed = h.passed;
+            let n = h.num_records;
+            counters_behind(s, passed, n, count)
+        }
+        5 => {
+            let h = DiscardedPacket::parse(c, s);
+            let passed = h.passed;
+            let n = h.num_records;
+            flows_behind(s, passed, n, count)
+        }
+        _ => Scanned::Got(c, count),
+    }
+}
+
+// One sample.
+fn one_sample(s: &[u8], c: Cursor, count: usize) -> Scanned
+    requires { ⌜ Scan (now s) c count ⌝ }
+    ensures { λ r. ⌜ scanned-out r ≡ counted count (follow (sample 8) (now (s .entry)) (place c)) ⌝ }
+{
+    match Frame::parse(c, s) {
+        Frame::Stop(r) => Scanned::Stop(r),
+        Frame::Got(format, x, e) => {
+            let start = x.start;
+            let end = start + x.count;
+            let inner = Cursor {
+                at: start,
+                steps: e.steps,
+            };
+            match sample_data(&s[..end], inner, format, count + 1) {
+                Scanned::Stop(r) => Scanned::Stop(r),
+                Scanned::Got(d, k) => Scanned::Got(
+                    Cursor {
+                        at: e.at,
+                        steps: d.steps,
+                    },
+                    k,
+                ),
+            }
+        }
+    }
+}
+
+// n samples in a row.
+pub fn samples(s: &[u8], c: Cursor, n: u32, count: usize) -> Scanned
+    requires { ⌜ Scan (now s) c count ⌝ }
+    ensures { λ r. ⌜ scanned-out r ≡ counted count (times n (follow (sample 8)) (now (s .entry)) (place c)) ⌝ }
+{
+    let mut cur = c;
+    let mut found = count;
+    let mut rest = n;
+    while 0 < rest {
+        match one_sample(s, cur, found) {
+            Scanned::Stop(r) => {
+                return Scanned::Stop(r);
+            }
+            Scanned::Got(d, k) => {
+                cur = d;
+                found = k;
+            }
+        }
+        rest = rest - 1;
+    }
+    Scanned::Got(cur, found)
+}
