@@ -114,7 +114,7 @@ module _ (sc : Script) (n : ℕ) (s l : List ℕ) (at base parent next : ℕ) wh
 module _ (s l : List ℕ) (base parent next : ℕ) (r : Range) (inner : Forest) {l′ l″ : List ℕ}
     (h : l′ ≡ write l (6 * (next + 1)) (rows (base + (next + 1)) (base + next) inner))
     (q : l″ ≡ write l′ (6 * next) (r .kind ∷ r .format ∷ r .span .start ∷ r .span .count ∷ parent ∷ r .depth ∷ [])) where
-  own-first : l″ ≡ write l (6 * next) (rows (base + next) parent (tree r inner bare))
+  pub own-first : l″ ≡ write l (6 * next) (rows (base + next) parent (tree r inner bare))
   own-first =
       let v : 6 * (next + 1) ≡ 6 * next + length (r .kind ∷ r .format ∷ r .span .start ∷ r .span .count ∷ parent ∷ r .depth ∷ []) = omega arith in
       let k : base + (next + 1) ≡ base + next + 1 = omega arith in

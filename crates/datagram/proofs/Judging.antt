@@ -1,0 +1,209 @@
+-- One datagram, taken apart: its header, its samples, and its own range around them. Assumes nothing.
+use Prim.Native.Nat.{ℕ, _+_, _*_, _-_, _^_, _≤_, _<_}
+use mathlib.Core.Bool.{Bool, true, false, cond}
+use mathlib.Core.Path.{_≡_, refl, sym, ap, _∙_, subst}
+use mathlib.Core.List.{List, [], _∷_}
+use native.Mathlib.Omega.{arith}
+use native.Mathlib.Nat.{add-zero}
+use borrow.Author.Needs.{needs}
+use lib.Dec.{eqb, leb}
+use lib.ListN.{length}
+use mir.Syntax.{w32, w64}
+use mir.Val.{Fits}
+use Rattle.reading.specs.Bytes.{be4}
+use Rattle.reading.specs.Script.{Value, number, Range, Forest, bare, tree, Found, nothing, tested, Script, give, here, repeat}
+use Rattle.reading.specs.Cursor.{Place, Out, got, stop, then, on as ahead-by, read-item, times, follow}
+use Rattle.reading.specs.Layout.{Field, addr, words, fields, last-number, ranged, between, sample, header, datagram, datagram-to}
+use Rattle.reading.specs.Answer.{size, rows, from, nobody, layout-of}
+use Rattle.reading.proofs.Items.{never, Split, split}
+use Rattle.reading.proofs.Bounds.{Owes, owes-item, owes}
+use Rattle.reading.proofs.Fields.{field-out, fields-out, fields-then}
+use Rattle.reading.proofs.Counts.{counted}
+use Rattle.reading.proofs.Steps.{Alike, steady-times}
+use Rattle.reading.proofs.Stored.{write, write-length}
+use Rattle.reading.proofs.Places.{Accepted, accepted, ranges-of, end-of, stopped, alike-accepted, alike-ranges, alike-end, forward-times}
+use Rattle.xdr.specs.declared.Cursor.{Cursor}
+use Rattle.xdr.specs.declared.Refusal.{Refusal}
+use Rattle.xdr.specs.declared.Passed.{Passed}
+use Rattle.xdr.specs.declared.Passed.the-variants as passed
+use Rattle.xdr.specs.Shown.{place, Inside, Reads, refusal}
+use Rattle.xdr.proofs.Rows.{shown-row, shown-halt, reads-inside, row-forward}
+use Rattle.flows.specs.declared.frames.Scanned.{Scanned}
+use Rattle.flows.specs.declared.frames.Scanned.the-variants as scanned
+use Rattle.flows.specs.declared.put.Pen.{Pen}
+use Rattle.flows.specs.declared.put.Written.{Written}
+use Rattle.flows.specs.Scanned.{Scan, scanned-out}
+use Rattle.flows.specs.Written.{Ready, Put, written, placed}
+use Rattle.flows.proofs.Placing.{a-pen, at-is, next-is, store-is, put-kept, own-first}
+use Rattle.samples.specs.Held.{Counted, on, over, rest-of}
+use Rattle.flows.proofs.Scan.{scan-inside}
+use Rattle.samples.proofs.Sampling.{behind-cut, behind-got, counted-scan, fields-counted, sample-thrift}
+use Rattle.datagram.specs.declared.header.Header.{Header}
+use Rattle.datagram.specs.declared.one.Judged.{Judged}
+use Rattle.datagram.specs.Shown.{header-fields, Is-judged, root}
+
+-- what a datagram finds, once its samples are read from q to e
+abbrev whole : ℕ → List Value → Found → Place → Found
+whole a vs r e = record { values = vs; ranges = ranged 0 0 0 (between a (e .at)) (r .ranges) }
+
+-- a datagram is its header, and then its samples
+pub datagram-is : (s : List ℕ) (p : Place) → follow datagram s p ≡ then (fields-out header s p) (λ vs q. then (times (last-number vs) (follow (sample 8)) s q) (λ r e. got (whole (p .at) vs r e) e))
+unfolding datagram-to follow
+datagram-is s p = fields-then header _ s p
+
+module _ (s : List ℕ) (c : Cursor) where
+  not-begun : (x : Refusal) → fields-out header s (place c) ≡ stop (x .code) (x .at) (x .steps) → follow datagram s (place c) ≡ stop (x .code) (x .at) (x .steps)
+  not-begun x e = datagram-is s (place c) ∙ ap (λ (o : Out (List Value)). then o (λ vs q. then (times (last-number vs) (follow (sample 8)) s q) (λ r e. got (whole (c .at) vs r e) e))) e
+
+  begun : {vs : List Value} (d : Cursor) → fields-out header s (place c) ≡ got vs (place d) → follow datagram s (place c) ≡ then (times (last-number vs) (follow (sample 8)) s (place d)) (λ r e. got (whole (c .at) vs r e) e)
+  begun d e = datagram-is s (place c) ∙ ap (λ (o : Out (List Value)). then o (λ vs q. then (times (last-number vs) (follow (sample 8)) s q) (λ r e. got (whole (c .at) vs r e) e))) e
+
+-- ---- the first pass
+
+the-place : {A : Type 0} {a b : A} {p q : Place} → got a p ≡ got b q → p ≡ q
+the-place e = cc
+
+-- a header passes its version word
+module _ (s : List ℕ) (p : Place) (h : p .at ≤ length s) where
+  version-on : {v : Value} {q : Place} (b y : Bool) → cond b (cond y (got (number (be4 s (p .at))) (ahead-by 4 p)) (stop 3 (p .at) (p .steps))) (stop 2 (p .at) (p .steps)) ≡ got v q → q .at ≡ p .at + 4
+  version-on true true e = let z = the-place e in ap (λ (r : Place). r .at) (sym z)
+  version-on true false e = never e
+  version-on false y e = never e
+
+  header-on : {vs : List Value} {q : Place} → fields-out header s p ≡ got vs q → p .at + 4 ≤ q .at
+  unfolding fields-out field-out read-item follow Owes
+  header-on {vs} {q} e =
+      let w = split (read-item (tested (λ v. eqb v 5) 3) s p) _ e in
+      let i = version-on (leb (p .at + 4) (length s)) (eqb (be4 s (p .at)) 5) (w .first) in
+      let j = rw (w .first) at (owes-item s p (tested (λ v. eqb v 5) 3) h) in
+      let u = split (fields-out (addr ∷ words 4) s (w .place)) _ (w .second) in
+      let f : follow (fields (addr ∷ words 4) (λ _. give nothing)) s (w .place) ≡ got nothing (u .place) = fields-then (addr ∷ words 4) (λ _. give nothing) s (w .place) ∙ ap (λ (o : Out (List Value)). then o (λ _ r. got nothing r)) (u .first) in
+      let k = rw f at (owes (fields (addr ∷ words 4) (λ _. give nothing)) s (w .place) (j .1)) in
+      let z = the-place (u .second) in
+      let y = ap (λ (r : Place). r .at) z in
+      omega (arith, i, k .0, y)
+
+module _ (s : List ℕ) (c : Cursor) (k : ℕ) where
+  -- the datagram's own descriptor can be counted, once its header is read
+  pub one-counts : {p : Passed} {d : Cursor} → Counted s p (k + 1) → p ≡ passed.Got d → length s < 2 ^ 64 → Fits w64 (k + 1)
+  one-counts g w l = let i = counted-scan g w in record { fits = omega (arith, i .inside, i .few) }
+
+  pub header-counted : {vs : List Value} {p : Passed} → Reads header s c p vs → Scan s c k → Counted s p (k + 1)
+  header-counted {vs} {p} e g = go p e
+    where
+      go : (p : Passed) → Reads header s c p vs → Counted s p (k + 1)
+      go (passed.Got d) e =
+          let i : Inside s d = reads-inside header s c e refl (scan-inside g) in
+          let f : c .at + 4 ≤ d .at = header-on s (place c) (g .inside) (shown-row s c header e refl .gives) in
+          on {k = k + 1} (record { inside = i .inside; counted = i .counted; few = omega (arith, g .few) })
+      go (passed.Stop x) e = over
+
+  judged : {vs : List Value} (p : Passed) → Reads header s c p vs → rest-of (sample 8) s p (last-number vs) (k + 1) ≡ counted k (follow datagram s (place c))
+  unfolding counted rest-of size
+  judged {vs} (passed.Stop x) e = sym (ap (counted k) (not-begun s c x (shown-halt s c header e refl .stops)))
+  judged {vs} (passed.Got d) e = go (times (last-number vs) (follow (sample 8)) s (place d)) ∙ sym (ap (counted k) (begun s c d (shown-row s c header e refl .gives)))
+    where
+      go : (o : Out Found) → counted (k + 1) o ≡ counted k (then o (λ r i. got (whole (c .at) vs r i) i))
+      go (got r i) =
+          let z : k + 1 + size (r .ranges) ≡ k + (1 + size (r .ranges) + 0) = omega arith in
+          ap (λ (n : ℕ). got n i) z
+      go (stop x a n) = refl
+
+  pub judged-all : (h : Header) {m : Scanned} → Reads header s c (h .passed) (header-fields h) → scanned-out m ≡ rest-of (sample 8) s (h .passed) (h .«num_samples») (k + 1) → Is-judged s c k (record { scanned = m; header = h })
+  unfolding last-number
+  judged-all h e i = record { outcome = i ∙ judged (h .passed) e; head = e }
+
+-- ---- the second pass
+abbrev start-of : ℕ → Cursor
+start-of at = record { at = at; steps = 0 }
+
+module _ (s l : List ℕ) (at base : ℕ) (g : Ready s l (root base) (follow datagram s (from at))) (f : at ≤ length s) (h : Header)
+    (e : Reads header s (start-of at) (h .passed) (header-fields h)) where
+  -- its header was read
+  pub header-there : {x : Refusal} {r : Put} → h .passed ≡ passed.Stop x → r ≡ placed (root base) (follow datagram s (from at)) l
+  header-there {x} w =
+      let z = shown-halt s (start-of at) header e w in
+      absurd (stopped (subst Accepted (not-begun s (start-of at) x (z .stops)) (g .good)))
+
+  module _ {d : Cursor} (w : h .passed ≡ passed.Got d) where
+    inner : Out Found
+    inner = times (h .«num_samples») (follow (sample 8)) s (from (d .at))
+
+    is : follow datagram s (from at) ≡ then (times (h .«num_samples») (follow (sample 8)) s (place d)) (λ r i. got (whole at (header-fields h) r i) i)
+    unfolding last-number
+    is = begun s (start-of at) d (shown-row s (start-of at) header e w .gives)
+
+    ahead : (at ≤ d .at) × (d .at ≤ length s)
+    ahead =
+        let i : Inside s (start-of at) = record { inside = f; counted = omega arith } in
+        (row-forward header s (start-of at) (shown-row s (start-of at) header e w) f, reads-inside header s (start-of at) e w i .inside)
+
+    alike : Alike (times (h .«num_samples») (follow (sample 8)) s (place d)) (times (h .«num_samples») (follow (sample 8)) s (from (d .at)))
+    alike = steady-times (sample 8) s (h .«num_samples») (place d) (from (d .at)) refl
+
+    lies : (o u : Out Found) → Alike o u → Accepted (then o (λ r i. got (whole at (header-fields h) r i) i))
+        → Accepted u × (ranges-of (then o (λ r i. got (whole at (header-fields h) r i) i)) ≡ ranged 0 0 0 (between at (end-of u)) (ranges-of u)) × (end-of (then o (λ r i. got (whole at (header-fields h) r i) i)) ≡ end-of u)
+    unfolding ranges-of end-of
+    lies (got a q) u k y =
+        let z : q .at ≡ end-of u = alike-end k accepted in
+        let v : a .ranges ≡ ranges-of u = alike-ranges k in
+        (alike-accepted k accepted, rw (z, v), z)
+    lies (stop c a n) u k y = absurd (stopped y)
+
+    laid : Accepted (times (h .«num_samples») (follow (sample 8)) s (from (d .at)))
+        × (ranges-of (follow datagram s (from at)) ≡ ranged 0 0 0 (between at (end-of (times (h .«num_samples») (follow (sample 8)) s (from (d .at))))) (ranges-of (times (h .«num_samples») (follow (sample 8)) s (from (d .at)))))
+        × (end-of (follow datagram s (from at)) ≡ end-of (times (h .«num_samples») (follow (sample 8)) s (from (d .at))))
+    laid =
+        let y = lies _ _ alike (subst Accepted is (g .good)) in
+        (y .0, ap ranges-of is ∙ y .1, ap end-of is ∙ y .2)
+
+    sizes : size (ranges-of (follow datagram s (from at))) ≡ 1 + size (ranges-of (times (h .«num_samples») (follow (sample 8)) s (from (d .at))))
+    unfolding size
+    sizes = ap size (laid .1) ∙ add-zero _
+
+    pub samples-ready : Ready s l (a-pen base base 1) (times (h .«num_samples») (follow (sample 8)) s (from (d .at)))
+    samples-ready =
+        let k = sizes in
+        record { short = g .short; good = laid .0; room = omega (arith, g .room); few = omega (arith, g .few) }
+
+    pub start32 : Fits w32 at
+    start32 = record { fits = omega (arith, f, g .short) }
+
+    module _ {v : Written} {l′ : List ℕ} (i : written v l′ ≡ placed (a-pen base base 1) (times (h .«num_samples») (follow (sample 8)) s (from (d .at))) l) where
+      end-in : (d .at ≤ v .at) × (v .at ≤ length s)
+      end-in =
+          let y = forward-times (sample 8) (h .«num_samples») s (d .at) (ahead .1) (laid .0) in
+          let k = at-is (a-pen base base 1) _ l i in
+          (omega (arith, y .0), omega (arith, y .1))
+
+      pub end-forward : at ≤ v .at
+      end-forward = omega (arith, end-in .0, ahead .0)
+
+      pub length32 : Fits w32 (v .at - at)
+      length32 = record { fits = omega (arith, end-in .1, g .short) }
+
+      pub own-room : 6 * 0 + 6 ≤ length l′
+      own-room = let k = sizes in omega (arith, g .room, put-kept (a-pen base base 1) _ l i)
+
+      module _ {l″ : List ℕ} (q : l″ ≡ write l′ (6 * 0) (0 ∷ 0 ∷ at ∷ (v .at - at) ∷ nobody ∷ 0 ∷ [])) where
+        pub datagram-kept : length l″ ≡ length l
+        datagram-kept = ap length q ∙ write-length _ _ _ ∙ put-kept (a-pen base base 1) _ l i
+
+        pub datagram-placed : written v l″ ≡ placed (root base) (follow datagram s (from at)) l
+        unfolding placed
+        datagram-placed =
+            let x : v .at ≡ end-of (times (h .«num_samples») (follow (sample 8)) s (from (d .at))) = at-is (a-pen base base 1) _ l i in
+            let y : v .next ≡ 1 + size (ranges-of (times (h .«num_samples») (follow (sample 8)) s (from (d .at)))) = next-is (a-pen base base 1) _ l i in
+            let r : Range = record { kind = 0; format = 0; span = between at (v .at); depth = 0 } in
+            let k : l′ ≡ write l (6 * (0 + 1)) (rows (base + (0 + 1)) (base + 0) (ranges-of (times (h .«num_samples») (follow (sample 8)) s (from (d .at))))) =
+            store-is (a-pen base base 1) _ l i ∙ ap (λ (m : ℕ). write l 6 (rows (base + 1) m (ranges-of (times (h .«num_samples») (follow (sample 8)) s (from (d .at)))))) (sym (add-zero base)) in
+            let t : tree r (ranges-of (times (h .«num_samples») (follow (sample 8)) s (from (d .at)))) bare ≡ ranges-of (follow datagram s (from at)) =
+            ap (λ (m : ℕ). ranged 0 0 0 (between at m) (ranges-of (times (h .«num_samples») (follow (sample 8)) s (from (d .at))))) x ∙ sym (laid .1) in
+            let a : v .at ≡ end-of (follow datagram s (from at)) = x ∙ sym (laid .2) in
+            let b : v .next ≡ 0 + size (ranges-of (follow datagram s (from at))) = y ∙ rw sizes (omega arith) in
+            let z : l″ ≡ write l (6 * 0) (rows (base + 0) nobody (ranges-of (follow datagram s (from at)))) =
+            own-first s l base nobody 0 r (ranges-of (times (h .«num_samples») (follow (sample 8)) s (from (d .at)))) k q
+            ∙ ap (λ (u : Forest). write l (6 * 0) (rows (base + 0) nobody u)) t in
+            λ j. record { at = a j; next = b j; store = z j }
+
+pub ruleset judging = (scan-inside, behind-cut, behind-got, counted-scan, one-counts, header-counted, judged-all, header-there, samples-ready, start32, end-forward, length32, own-room, datagram-kept, datagram-placed, needs)

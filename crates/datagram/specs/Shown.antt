@@ -1,0 +1,29 @@
+-- What this crate's answers are in terms of the reading. Assumes nothing.
+use Prim.Native.Nat.{ℕ}
+use mathlib.Core.Path.{_≡_}
+use mathlib.Core.List.{List, [], _∷_}
+use Rattle.reading.specs.Script.{Value, number}
+use Rattle.reading.specs.Cursor.{follow}
+use Rattle.reading.specs.Layout.{header, datagram}
+use Rattle.reading.specs.Answer.{nobody}
+use Rattle.reading.proofs.Counts.{counted}
+use Rattle.xdr.specs.declared.Cursor.{Cursor}
+use Rattle.xdr.specs.Shown.{place, Reads, an-address}
+use Rattle.flows.specs.declared.put.Pen.{Pen}
+use Rattle.flows.specs.Scanned.{scanned-out}
+use Rattle.datagram.specs.declared.header.Header.{Header}
+use Rattle.datagram.specs.declared.one.Judged.{Judged}
+
+abbrev pub header-fields : Header → List Value
+header-fields r =
+    number (r .version) ∷ an-address (r .«agent_address») ∷ number (r .«sub_agent_id») ∷ number (r .«sequence_number») ∷ number (r .uptime)
+    ∷ number (r .«num_samples») ∷ []
+
+-- a datagram that was judged: its outcome with the descriptors counted on top of k, and its header
+pub record Is-judged (s : List ℕ) (c : Cursor) (k : ℕ) (r : Judged) : Type 0 where
+  pub outcome : scanned-out (r .scanned) ≡ counted k (follow datagram s (place c))
+  pub head : Reads header s c (r .header .passed) (header-fields (r .header))
+
+-- where a datagram's own descriptor goes: it has no parent
+abbrev pub root : ℕ → Pen
+root base = record { base = base; parent = nobody; next = 0 }

@@ -1,0 +1,99 @@
+// The header of a datagram.
+ghost use mathlib.Core.Path.{_≡_};
+ghost use mathlib.Core.List.{[], _∷_};
+ghost use Rattle.reading.specs.Script.{number};
+ghost use Rattle.reading.specs.Layout.{version, addr, words};
+ghost use Rattle.reading.specs.Values.{zeros};
+ghost use Rattle.reading.specs.Answer.{layout-of};
+ghost use Rattle.xdr.specs.Shown.{Inside, Reads, refused};
+ghost use Rattle.flows.specs.Chain.{Then};
+ghost use Rattle.datagram.specs.Shown.{header-fields};
+use flows::next;
+use flows::next::Number;
+use xdr::Address;
+use xdr::Cursor;
+use xdr::Passed;
+use xdr::Refusal;
+use xdr::Word;
+
+// The header's fields; all zero on a refusal.
+pub struct Header {
+    pub passed: Passed,
+    pub version: u32,
+    pub agent_address: Address,
+    pub sub_agent_id: u32,
+    pub sequence_number: u32,
+    pub uptime: u32,
+    pub num_samples: u32,
+}
+
+// The version, which is 5.
+fn version(c: Cursor, s: &[u8]) -> Number
+    requires { ⌜ Inside (now s) c ⌝ }
+    ensures { λ r. ⌜ Then (version ∷ []) (now (s .entry)) (Passed.Got c) (r .passed) (number (r .value) ∷ []) ⌝ }
+{
+    match c.read_u32(s) {
+        Word::Stop(r) => Number {
+            passed: Passed::Stop(r),
+            value: 0,
+        },
+        Word::Got(v, d) => {
+            if v != 5 {
+                return Number {
+                    passed: Passed::Stop(c.refusal(3)),
+                    value: 0,
+                };
+            }
+            Number {
+                passed: Passed::Got(d),
+                value: v,
+            }
+        }
+    }
+}
+
+impl Header {
+    fn none(r: Refusal) -> Header
+        ensures { λ a. ⌜ (a .passed ≡ Passed.Stop r) × (header-fields a ≡ zeros (version ∷ addr ∷ words 4)) ⌝ }
+    {
+        Header {
+            passed: Passed::Stop(r),
+            version: 0,
+            agent_address: Address {
+                kind: 0,
+                bytes: [0u8; 16],
+            },
+            sub_agent_id: 0,
+            sequence_number: 0,
+            uptime: 0,
+            num_samples: 0,
+        }
+    }
+
+    pub fn parse(c: Cursor, s: &[u8]) -> Header
+        requires { ⌜ Inside (now s) c ⌝ }
+        ensures { λ r. ⌜ Reads (layout-of 0 0) (now (s .entry)) c (r .passed) (header-fields r) ⌝ }
+    {
+        let first = version(c, s);
+        let passed = first.passed;
+        let version = first.value;
+        let agent = next::address(passed, s);
+        let passed = agent.passed;
+        let agent_address = agent.address;
+        let row = next::words(passed, s, 4);
+        let passed = row.passed;
+        let words = row.words;
+        match passed {
+            Passed::Stop(r) => Header::none(r),
+            Passed::Got(d) => Header {
+                passed: Passed::Got(d),
+                version: version,
+                agent_address: agent_address,
+                sub_agent_id: words[0],
+                sequence_number: words[1],
+                uptime: words[2],
+                num_samples: words[3],
+            },
+        }
+    }
+}

@@ -1,0 +1,3 @@
+// Datagrams, one or a run of them, read into a store of descriptors that the caller lends.
+pub mod header;
+pub mod one;
