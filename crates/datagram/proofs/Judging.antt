@@ -16,7 +16,7 @@ use Rattle.reading.specs.Cursor.{Place, Out, got, stop, then, on as ahead-by, r
 use Rattle.reading.specs.Layout.{Field, addr, words, fields, last-number, ranged, between, sample, header, datagram, datagram-to}
 use Rattle.reading.specs.Answer.{size, rows, from, nobody, layout-of}
 use Rattle.reading.proofs.Items.{never, Split, split}
-use Rattle.reading.proofs.Bounds.{Owes, owes-item, owes}
+use Rattle.reading.proofs.Room.{whole, datagram-is, header-on}
 use Rattle.reading.proofs.Fields.{field-out, fields-out, fields-then}
 use Rattle.reading.proofs.Counts.{counted}
 use Rattle.reading.proofs.Steps.{Alike, steady-times}
@@ -42,46 +42,14 @@ use Rattle.datagram.specs.declared.header.Header.{Header}
 use Rattle.datagram.specs.declared.one.Judged.{Judged}
 use Rattle.datagram.specs.Shown.{header-fields, Is-judged, root}
 
--- what a datagram finds, once its samples are read from q to e
-abbrev whole : ℕ → List Value → Found → Place → Found
-whole a vs r e = record { values = vs; ranges = ranged 0 0 0 (between a (e .at)) (r .ranges) }
-
--- a datagram is its header, and then its samples
-pub datagram-is : (s : List ℕ) (p : Place) → follow datagram s p ≡ then (fields-out header s p) (λ vs q. then (times (last-number vs) (follow (sample 8)) s q) (λ r e. got (whole (p .at) vs r e) e))
-unfolding datagram-to follow
-datagram-is s p = fields-then header _ s p
-
 module _ (s : List ℕ) (c : Cursor) where
-  not-begun : (x : Refusal) → fields-out header s (place c) ≡ stop (x .code) (x .at) (x .steps) → follow datagram s (place c) ≡ stop (x .code) (x .at) (x .steps)
-  not-begun x e = datagram-is s (place c) ∙ ap (λ (o : Out (List Value)). then o (λ vs q. then (times (last-number vs) (follow (sample 8)) s q) (λ r e. got (whole (c .at) vs r e) e))) e
+  pub not-begun : (x : Refusal) → fields-out header s (place c) ≡ stop (x .code) (x .at) (x .steps) → follow datagram s (place c) ≡ stop (x .code) (x .at) (x .steps)
+  not-begun x e = datagram-is 8 s (place c) ∙ ap (λ (o : Out (List Value)). then o (λ vs q. then (times (last-number vs) (follow (sample 8)) s q) (λ r e. got (whole (c .at) vs r e) e))) e
 
-  begun : {vs : List Value} (d : Cursor) → fields-out header s (place c) ≡ got vs (place d) → follow datagram s (place c) ≡ then (times (last-number vs) (follow (sample 8)) s (place d)) (λ r e. got (whole (c .at) vs r e) e)
-  begun d e = datagram-is s (place c) ∙ ap (λ (o : Out (List Value)). then o (λ vs q. then (times (last-number vs) (follow (sample 8)) s q) (λ r e. got (whole (c .at) vs r e) e))) e
+  pub begun : {vs : List Value} (d : Cursor) → fields-out header s (place c) ≡ got vs (place d) → follow datagram s (place c) ≡ then (times (last-number vs) (follow (sample 8)) s (place d)) (λ r e. got (whole (c .at) vs r e) e)
+  begun d e = datagram-is 8 s (place c) ∙ ap (λ (o : Out (List Value)). then o (λ vs q. then (times (last-number vs) (follow (sample 8)) s q) (λ r e. got (whole (c .at) vs r e) e))) e
 
 -- ---- the first pass
-
-the-place : {A : Type 0} {a b : A} {p q : Place} → got a p ≡ got b q → p ≡ q
-the-place e = cc
-
--- a header passes its version word
-module _ (s : List ℕ) (p : Place) (h : p .at ≤ length s) where
-  version-on : {v : Value} {q : Place} (b y : Bool) → cond b (cond y (got (number (be4 s (p .at))) (ahead-by 4 p)) (stop 3 (p .at) (p .steps))) (stop 2 (p .at) (p .steps)) ≡ got v q → q .at ≡ p .at + 4
-  version-on true true e = let z = the-place e in ap (λ (r : Place). r .at) (sym z)
-  version-on true false e = never e
-  version-on false y e = never e
-
-  header-on : {vs : List Value} {q : Place} → fields-out header s p ≡ got vs q → p .at + 4 ≤ q .at
-  unfolding fields-out field-out read-item follow Owes
-  header-on {vs} {q} e =
-      let w = split (read-item (tested (λ v. eqb v 5) 3) s p) _ e in
-      let i = version-on (leb (p .at + 4) (length s)) (eqb (be4 s (p .at)) 5) (w .first) in
-      let j = rw (w .first) at (owes-item s p (tested (λ v. eqb v 5) 3) h) in
-      let u = split (fields-out (addr ∷ words 4) s (w .place)) _ (w .second) in
-      let f : follow (fields (addr ∷ words 4) (λ _. give nothing)) s (w .place) ≡ got nothing (u .place) = fields-then (addr ∷ words 4) (λ _. give nothing) s (w .place) ∙ ap (λ (o : Out (List Value)). then o (λ _ r. got nothing r)) (u .first) in
-      let k = rw f at (owes (fields (addr ∷ words 4) (λ _. give nothing)) s (w .place) (j .1)) in
-      let z = the-place (u .second) in
-      let y = ap (λ (r : Place). r .at) z in
-      omega (arith, i, k .0, y)
 
 module _ (s : List ℕ) (c : Cursor) (k : ℕ) where
   -- the datagram's own descriptor can be counted, once its header is read
@@ -94,8 +62,8 @@ module _ (s : List ℕ) (c : Cursor) (k : ℕ) where
       go : (p : Passed) → Reads header s c p vs → Counted s p (k + 1)
       go (passed.Got d) e =
           let i : Inside s d = reads-inside header s c e refl (scan-inside g) in
-          let f : c .at + 4 ≤ d .at = header-on s (place c) (g .inside) (shown-row s c header e refl .gives) in
-          on {k = k + 1} (record { inside = i .inside; counted = i .counted; few = omega (arith, g .few) })
+          let f = header-on s (place c) (g .inside) (shown-row s c header e refl .gives) in
+          on {k = k + 1} (record { inside = i .inside; counted = i .counted; few = omega (arith, g .few, f .0) })
       go (passed.Stop x) e = over
 
   judged : {vs : List Value} (p : Passed) → Reads header s c p vs → rest-of (sample 8) s p (last-number vs) (k + 1) ≡ counted k (follow datagram s (place c))
@@ -114,7 +82,7 @@ module _ (s : List ℕ) (c : Cursor) (k : ℕ) where
   judged-all h e i = record { outcome = i ∙ judged (h .passed) e; head = e }
 
 -- ---- the second pass
-abbrev start-of : ℕ → Cursor
+abbrev pub start-of : ℕ → Cursor
 start-of at = record { at = at; steps = 0 }
 
 module _ (s l : List ℕ) (at base : ℕ) (g : Ready s l (root base) (follow datagram s (from at))) (f : at ≤ length s) (h : Header)

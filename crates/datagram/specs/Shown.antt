@@ -5,12 +5,14 @@ use mathlib.Core.List.{List, [], _∷_}
 use Rattle.reading.specs.Script.{Value, number}
 use Rattle.reading.specs.Cursor.{follow}
 use Rattle.reading.specs.Layout.{header, datagram}
-use Rattle.reading.specs.Answer.{nobody}
+use Rattle.reading.specs.Answer as answer
+use Rattle.reading.specs.Answer.{nobody, refused}
 use Rattle.reading.proofs.Counts.{counted}
 use Rattle.xdr.specs.declared.Cursor.{Cursor}
 use Rattle.xdr.specs.Shown.{place, Reads, an-address}
 use Rattle.flows.specs.declared.put.Pen.{Pen}
 use Rattle.flows.specs.Scanned.{scanned-out}
+use Rattle.datagram.specs.declared.decode.Decoded.{Decoded}
 use Rattle.datagram.specs.declared.header.Header.{Header}
 use Rattle.datagram.specs.declared.one.Judged.{Judged}
 
@@ -27,3 +29,25 @@ pub record Is-judged (s : List ℕ) (c : Cursor) (k : ℕ) (r : Judged) : Type 0
 -- where a datagram's own descriptor goes: it has no parent
 abbrev pub root : ℕ → Pen
 root base = record { base = base; parent = nobody; next = 0 }
+
+-- the answer to one datagram, with the store that it leaves
+abbrev pub decoded : Decoded → List ℕ → answer.Answer
+decoded r w = record {
+  code = r .answer .code;
+  at = r .answer .at;
+  steps = r .answer .steps;
+  needed = r .answer .needed;
+  head = record {
+    address-type = r .«agent_address» .kind;
+    address = r .«agent_address» .bytes;
+    sub-agent = r .«sub_agent_id»;
+    sequence = r .«sequence_number»;
+    uptime = r .uptime;
+    sample-count = r .«num_samples»;
+  };
+  store = w;
+}
+
+-- a refusal: the header is all zero, and any store stays as it was
+pub record Refuses (r : Decoded) (code at steps needed : ℕ) : Type 0 where
+  pub leaves : (w : List ℕ) → decoded r w ≡ refused code at steps needed w

@@ -4,18 +4,18 @@ use mathlib.Core.Path.{_≡_, refl, sym, ap, _∙_}
 use mathlib.Core.Bool.{Bool, true, false, cond}
 use mathlib.Core.List.{List, [], _∷_, _++_}
 use native.Mathlib.Omega.{arith}
-use lib.Dec.{eqb}
+use lib.Dec.{eqb, leb}
 use lib.ListN.{length, take}
 use lib.Seq.{length-take-le}
-use Rattle.reading.specs.Bytes.{padded}
-use Rattle.reading.specs.Script.{Span, Value, number, Found, nothing, _&&_, word, Script, give, refuse, item, within, repeat}
-use Rattle.reading.specs.Cursor.{Place, Out, got, stop, Reader, then, read-opaque, read-item, times, inside, follow}
-use Rattle.reading.specs.Layout.{num, Field, fields, Row, _⟼_, _⟼_each_, last-number, opened, words, only, ranged, between, framed, pdu, flows, flow, counter, samples, sample, header, datagram-to}
+use Rattle.reading.specs.Bytes.{be4, padded}
+use Rattle.reading.specs.Script.{Span, Value, number, Found, nothing, _&&_, word, tested, Script, give, refuse, item, within, repeat}
+use Rattle.reading.specs.Cursor.{Place, Out, got, stop, Reader, then, on, read-opaque, read-item, times, inside, follow}
+use Rattle.reading.specs.Layout.{num, Field, addr, fields, Row, _⟼_, _⟼_each_, last-number, opened, words, only, ranged, between, framed, pdu, flows, flow, counter, samples, sample, header, datagram-to}
 use Rattle.reading.specs.Answer.{size}
 use Rattle.reading.proofs.Items.{never, Split, split, Opaque-read, opaque-read}
 use Rattle.reading.proofs.Stands.{place}
 use Rattle.reading.proofs.Bounds.{Owes, owes, owes-item}
-use Rattle.reading.proofs.Fields.{fields-out, fields-then}
+use Rattle.reading.proofs.Fields.{field-out, fields-out, fields-then}
 use Rattle.reading.proofs.Counts.{size-joined, repeat-is}
 use Rattle.reading.proofs.Frames.{Frame, frame-read, span-length, Pdu, pdu-read}
 
@@ -140,3 +140,48 @@ thrifty-samples limit =
 
 pub thrifty-sample : (limit : ℕ) → Thrifty (follow (sample limit))
 thrifty-sample limit = thrifty-framed 1 0 (opened (samples limit)) (thrifty-opened (samples limit) (thrifty-samples limit))
+
+-- ---- a datagram
+
+-- what a datagram finds that begins at i, once its samples are read up to e
+abbrev pub whole : ℕ → List Value → Found → Place → Found
+whole i vs r e = record { values = vs; ranges = ranged 0 0 0 (between i (e .at)) (r .ranges) }
+
+-- a datagram is its header, and then its samples
+pub datagram-is : (limit : ℕ) (s : List ℕ) (p : Place)
+    → follow (datagram-to limit) s p ≡ then (fields-out header s p) (λ vs q. then (times (last-number vs) (follow (sample limit)) s q) (λ r e. got (whole (p .at) vs r e) e))
+unfolding datagram-to follow
+datagram-is limit s p = fields-then header _ s p
+
+last-place : {A : Type 0} {a b : A} {p q : Place} → got a p ≡ got b q → p ≡ q
+last-place e = cc
+
+-- a header passes its version word
+module _ (s : List ℕ) (p : Place) (h : p .at ≤ length s) where
+  version-on : {v : Value} {q : Place} (b y : Bool) → cond b (cond y (got (number (be4 s (p .at))) (on 4 p)) (stop 3 (p .at) (p .steps))) (stop 2 (p .at) (p .steps)) ≡ got v q → q .at ≡ p .at + 4
+  version-on true true e = ap (λ (r : Place). r .at) (sym (last-place e))
+  version-on true false e = never e
+  version-on false y e = never e
+
+  pub header-on : {vs : List Value} {q : Place} → fields-out header s p ≡ got vs q → (p .at + 4 ≤ q .at) × (q .at ≤ length s)
+  unfolding fields-out field-out read-item Owes
+  header-on {vs} {q} e =
+      let w = split (read-item (tested (λ v. eqb v 5) 3) s p) _ e in
+      let i = version-on (leb (p .at + 4) (length s)) (eqb (be4 s (p .at)) 5) (w .first) in
+      let j = rw (w .first) at (owes-item s p (tested (λ v. eqb v 5) 3) h) in
+      let u = split (fields-out (addr ∷ words 4) s (w .place)) _ (w .second) in
+      let k = fields-on (addr ∷ words 4) s (w .place) (u .value) (u .place) (j .1) (u .first) in
+      let y = ap (λ (r : Place). r .at) (last-place (u .second)) in
+      (omega (arith, i, k .0, y), omega (arith, k .1, y))
+
+pub thrifty-datagram : (limit : ℕ) → Thrifty (follow (datagram-to limit))
+unfolding size
+thrifty-datagram limit s p a q h e =
+    let w = split (fields-out header s p) _ (sym (datagram-is limit s p) ∙ e) in
+    let i = header-on s p h (w .first) in
+    let v = split (times (last-number (w .value)) (follow (sample limit)) s (w .place)) _ (w .second) in
+    let k = thrifty-times (follow (sample limit)) (thrifty-sample limit) (steps-on (sample limit)) (last-number (w .value)) s (w .place) (v .value) (v .place) (i .1) (v .first) in
+    let y = ap (λ (r : Place). r .at) (last-place (v .second)) in
+    let g : got (whole (p .at) (w .value) (v .value) (v .place)) (v .place) ≡ got a q = v .second in
+    let x : whole (p .at) (w .value) (v .value) (v .place) ≡ a = cc in
+    rw (← x) (omega (arith, i .0, k, y))

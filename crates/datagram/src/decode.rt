@@ -1,0 +1,86 @@
+// One datagram, for any input and any store.
+ghost use mathlib.Core.Path.{_≡_};
+ghost use Rattle.reading.specs.Answer.{one};
+ghost use Rattle.datagram.specs.Shown.{decoded, Refuses};
+use crate::header::Header;
+use crate::one::judge;
+use crate::one::put_datagram;
+use flows::frames::Scanned;
+use xdr::Address;
+use xdr::Cursor;
+
+// What a call answers: document 01's code, the position, the steps, and the descriptors needed.
+pub struct Answer {
+    pub code: u32,
+    pub at: usize,
+    pub steps: usize,
+    pub needed: usize,
+}
+
+// The answer to one datagram, with its header; that is all zero on a refusal.
+pub struct Decoded {
+    pub answer: Answer,
+    pub agent_address: Address,
+    pub sub_agent_id: u32,
+    pub sequence_number: u32,
+    pub uptime: u32,
+    pub num_samples: u32,
+}
+
+impl Decoded {
+    fn refused(code: u32, at: usize, steps: usize, needed: usize) -> Decoded
+        ensures { λ r. ⌜ Refuses r code at steps needed ⌝ }
+    {
+        Decoded {
+            answer: Answer {
+                code: code,
+                at: at,
+                steps: steps,
+                needed: needed,
+            },
+            agent_address: Address {
+                kind: 0,
+                bytes: [0u8; 16],
+            },
+            sub_agent_id: 0,
+            sequence_number: 0,
+            uptime: 0,
+            num_samples: 0,
+        }
+    }
+}
+
+// The store is written where code 0 is answered, and only then: the descriptors from its first word on.
+pub fn decode(s: &[u8], store: &mut [u32]) -> Decoded
+    ensures { λ r. ⌜ decoded r (now (store .exit)) ≡ one (now (s .entry)) (now (store .entry)) ⌝ }
+{
+    if 16777216 < s.len() {
+        return Decoded::refused(1, 0, 0, 0);
+    }
+    let judged = judge(s, Cursor { at: 0, steps: 0 }, 0);
+    let scanned = judged.scanned;
+    let header = judged.header;
+    match scanned {
+        Scanned::Stop(r) => Decoded::refused(r.code, r.at, r.steps, 0),
+        Scanned::Got(e, k) => {
+            if store.len() / 6 < k {
+                return Decoded::refused(9, 0, e.steps, k);
+            }
+            let agent_address = header.agent_address;
+            put_datagram(s, 0, store, 0);
+            Decoded {
+                answer: Answer {
+                    code: 0,
+                    at: e.at,
+                    steps: e.steps,
+                    needed: k,
+                },
+                agent_address: agent_address,
+                sub_agent_id: header.sub_agent_id,
+                sequence_number: header.sequence_number,
+                uptime: header.uptime,
+                num_samples: header.num_samples,
+            }
+        }
+    }
+}
