@@ -1,11 +1,11 @@
 -- One datagram's answer: a law for each way out of `decode`, with the facts that the code has there. Assumes nothing.
 use Prim.Native.Nat.{ℕ, _+_, _*_, _/_, _≤_, _<_}
-use mathlib.Core.Bool.{true, false, cond}
+use mathlib.Core.Bool.{Bool, true, false, cond}
 use mathlib.Core.Path.{_≡_, refl, sym, ap, _∙_, subst}
 use mathlib.Core.List.{List, [], _∷_, _++_}
 use native.Mathlib.Omega.{arith}
 use borrow.Author.Needs.{needs}
-use borrow.Author.Tests.{le-leb, lt-leb}
+use borrow.Author.Tests.{leb-true, le-leb, lt-leb}
 use lib.Dec.{leb}
 use lib.ListN.{length, drop}
 use Rattle.reading.specs.Script.{Value, Found}
@@ -35,6 +35,36 @@ use Rattle.datagram.specs.declared.header.Header.{Header}
 use Rattle.datagram.specs.declared.one.Judged.{Judged}
 use Rattle.datagram.specs.Shown.{header-fields, Is-judged, root, decoded, Refuses}
 use Rattle.datagram.proofs.Judging.{start-of, begun, not-begun}
+
+-- where descriptors were answered, the store has room for them
+stored-room : (head : List Value → answer.Header) (o : Out Found) (w : List ℕ) → stored head o w .code ≡ 0 → 6 * stored head o w .needed ≤ length w
+unfolding stored
+stored-room head (stop c a n) w e = omega arith
+stored-room head (got a p) w e = go (leb (size (a .ranges)) (room w)) refl e
+  where
+    answers : Bool → answer.Answer
+    answers b =
+        cond b
+        (record { code = 0; at = p .at; steps = p .steps; needed = size (a .ranges); head = head (a .values); store = rows 0 nobody (a .ranges) ++ drop (6 * size (a .ranges)) w })
+        (refused 9 0 (p .steps) (size (a .ranges)) w)
+
+    go : (b : Bool) → leb (size (a .ranges)) (room w) ≡ b → answers b .code ≡ 0 → 6 * answers b .needed ≤ length w
+    go true t e = let y = leb-true (size (a .ranges)) (room w) t in omega arith
+    go false t e = absurd (omega arith)
+
+pub decoded-room : {l : List ℕ} (s w : List ℕ) (d : Decoded) → decoded d l ≡ one s w → length l ≡ length w → d .answer .code ≡ 0 → 6 * d .answer .needed ≤ length l
+unfolding one
+decoded-room {l} s w d e k c = go (leb (length s) 16777216) e
+  where
+    go : (b : Bool) → decoded d l ≡ cond b (stored header-of (follow datagram s (from 0)) w) (refused 1 0 0 0 w) → 6 * d .answer .needed ≤ length l
+    go true f =
+        let x : d .answer .code ≡ stored header-of (follow datagram s (from 0)) w .code = ap (λ (r : answer.Answer). r .code) f in
+        let y : d .answer .needed ≡ stored header-of (follow datagram s (from 0)) w .needed = ap (λ (r : answer.Answer). r .needed) f in
+        let z = stored-room header-of (follow datagram s (from 0)) w (sym x ∙ c) in
+        rw y (omega (arith, z))
+    go false f =
+        let y : d .answer .needed ≡ 0 = ap (λ (r : answer.Answer). r .needed) f in
+        omega (arith, y)
 
 pub at-start : (s : List ℕ) → Scan s (start-of 0) 0
 at-start s = record { inside = omega arith; counted = omega arith; few = omega arith }

@@ -12,15 +12,6 @@ pub fn octet(b: u8) -> usize
     b as usize
 }
 
-pub fn text(s: &[u8]) {
-    io::write_all(STDOUT_FILENO, s);
-}
-
-pub fn number(name: &[u8], n: u64) {
-    text(name);
-    io::print_decimal(STDOUT_FILENO, n);
-}
-
 // How far z is from zero.
 fn distance(z: i32) -> u64
     ensures { λ r. ⌜ r ≡ natAbs z ⌝ }
@@ -33,9 +24,9 @@ fn distance(z: i32) -> u64
 
 // A number with its sign.
 pub fn integer(name: &[u8], z: i32) {
-    text(name);
+    out::text(name);
     if z < 0 {
-        text(b"-");
+        out::text(b"-");
     }
     io::print_decimal(STDOUT_FILENO, distance(z));
 }
@@ -43,7 +34,7 @@ pub fn integer(name: &[u8], z: i32) {
 // Bytes in hexadecimal, and a dash where there are none.
 pub fn octets(s: &[u8]) {
     if s.len() == 0 {
-        text(b"-");
+        out::text(b"-");
     }
     let mut i = 0;
     while i < s.len() {
@@ -54,15 +45,15 @@ pub fn octets(s: &[u8]) {
 
 // The end of a line: where the cursor stands behind what was read.
 pub fn stands(c: Cursor) {
-    number(b" at=", c.at as u64);
-    number(b" steps=", c.steps as u64);
-    text(b"\n");
+    out::number(b" at=", c.at as u64);
+    out::number(b" steps=", c.steps as u64);
+    out::text(b"\n");
 }
 
 // The end of a line: why nothing was read.
 pub fn refusal(r: Refusal) {
-    number(b" code=", r.code as u64);
-    number(b" at=", r.at as u64);
-    number(b" steps=", r.steps as u64);
-    text(b"\n");
+    out::number(b" code=", r.code as u64);
+    out::number(b" at=", r.at as u64);
+    out::number(b" steps=", r.steps as u64);
+    out::text(b"\n");
 }
