@@ -2,32 +2,31 @@
 use Prim.Native.Nat.{ℕ, _+_, _*_, _/_, _≤_, _<_}
 use mathlib.Core.Bool.{Bool, true, false, cond}
 use mathlib.Core.Path.{_≡_, refl, sym, ap, _∙_, subst}
-use mathlib.Core.List.{List, [], _∷_, _++_}
+use mathlib.Core.List.{List, _++_}
 use native.Mathlib.Omega.{arith}
 use borrow.Author.Needs.{needs}
 use borrow.Author.Tests.{leb-true, le-leb, lt-leb}
 use lib.Dec.{leb}
 use lib.ListN.{length, drop}
 use Rattle.reading.specs.Script.{Value, Found}
-use Rattle.reading.specs.Cursor.{Place, Out, got, stop, then, times, follow}
-use Rattle.reading.specs.Layout.{last-number, sample, header, datagram, num, oct}
+use Rattle.reading.specs.Cursor.{Place, Out, got, stop, times, follow}
+use Rattle.reading.specs.Layout.{last-number, sample, header, datagram}
 use Rattle.reading.specs.Answer as answer
 use Rattle.reading.specs.Answer.{size, rows, room, from, nobody, header-of, refused, stored, one}
-use Rattle.reading.proofs.Items.{never, Split, split}
+use Rattle.reading.proofs.Items.{never, split}
 use Rattle.reading.proofs.Room.{whole, thrifty-datagram}
 use Rattle.reading.proofs.Counts.{counted}
 use Rattle.reading.proofs.Stored.{write, write-all, rows-length}
-use Rattle.reading.proofs.Places.{Accepted, accepted, ranges-of, end-of, stopped, Given, given, forward}
+use Rattle.reading.proofs.Places.{Accepted, accepted, ranges-of, end-of, forward}
 use Rattle.xdr.specs.declared.Cursor.{Cursor}
 use Rattle.xdr.specs.declared.Refusal.{Refusal}
 use Rattle.xdr.specs.declared.Passed.{Passed}
 use Rattle.xdr.specs.declared.Passed.the-variants as passed
 use Rattle.xdr.specs.Shown.{place, Reads, refusal}
 use Rattle.xdr.proofs.Rows.{shown-row, shown-halt}
-use Rattle.flows.specs.declared.frames.Scanned.{Scanned}
 use Rattle.flows.specs.declared.frames.Scanned.the-variants as scanned
 use Rattle.flows.specs.declared.put.Written.{Written}
-use Rattle.flows.specs.Scanned.{Scan, scanned-out}
+use Rattle.flows.specs.Scanned.{Scan}
 use Rattle.flows.specs.Written.{Ready, written, placed}
 use Rattle.flows.proofs.Placing.{store-is, put-kept}
 use Rattle.datagram.specs.declared.decode.Decoded.{Decoded}

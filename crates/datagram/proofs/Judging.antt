@@ -1,23 +1,19 @@
 -- One datagram, taken apart: its header, its samples, and its own range around them. Assumes nothing.
 use Prim.Native.Nat.{ℕ, _+_, _*_, _-_, _^_, _≤_, _<_}
-use mathlib.Core.Bool.{Bool, true, false, cond}
 use mathlib.Core.Path.{_≡_, refl, sym, ap, _∙_, subst}
 use mathlib.Core.List.{List, [], _∷_}
 use native.Mathlib.Omega.{arith}
 use native.Mathlib.Nat.{add-zero}
 use borrow.Author.Needs.{needs}
-use lib.Dec.{eqb, leb}
 use lib.ListN.{length}
 use mir.Syntax.{w32, w64}
 use mir.Val.{Fits}
-use Rattle.reading.specs.Bytes.{be4}
-use Rattle.reading.specs.Script.{Value, number, Range, Forest, bare, tree, Found, nothing, tested, Script, give, here, repeat}
-use Rattle.reading.specs.Cursor.{Place, Out, got, stop, then, on as ahead-by, read-item, times, follow}
-use Rattle.reading.specs.Layout.{Field, addr, words, fields, last-number, ranged, between, sample, header, datagram, datagram-to}
-use Rattle.reading.specs.Answer.{size, rows, from, nobody, layout-of}
-use Rattle.reading.proofs.Items.{never, Split, split}
+use Rattle.reading.specs.Script.{Value, Range, Forest, bare, tree, Found}
+use Rattle.reading.specs.Cursor.{Out, got, stop, then, times, follow}
+use Rattle.reading.specs.Layout.{last-number, ranged, between, sample, header, datagram}
+use Rattle.reading.specs.Answer.{size, rows, from, nobody}
 use Rattle.reading.proofs.Room.{whole, datagram-is, header-on}
-use Rattle.reading.proofs.Fields.{field-out, fields-out, fields-then}
+use Rattle.reading.proofs.Fields.{fields-out}
 use Rattle.reading.proofs.Counts.{counted}
 use Rattle.reading.proofs.Steps.{Alike, steady-times}
 use Rattle.reading.proofs.Stored.{write, write-length}
@@ -26,20 +22,17 @@ use Rattle.xdr.specs.declared.Cursor.{Cursor}
 use Rattle.xdr.specs.declared.Refusal.{Refusal}
 use Rattle.xdr.specs.declared.Passed.{Passed}
 use Rattle.xdr.specs.declared.Passed.the-variants as passed
-use Rattle.xdr.specs.Shown.{place, Inside, Reads, refusal}
+use Rattle.xdr.specs.Shown.{place, Inside, Reads}
 use Rattle.xdr.proofs.Rows.{shown-row, shown-halt, reads-inside, row-forward}
 use Rattle.flows.specs.declared.frames.Scanned.{Scanned}
-use Rattle.flows.specs.declared.frames.Scanned.the-variants as scanned
-use Rattle.flows.specs.declared.put.Pen.{Pen}
 use Rattle.flows.specs.declared.put.Written.{Written}
 use Rattle.flows.specs.Scanned.{Scan, scanned-out}
 use Rattle.flows.specs.Written.{Ready, Put, written, placed}
 use Rattle.flows.proofs.Placing.{a-pen, at-is, next-is, store-is, put-kept, own-first}
 use Rattle.samples.specs.Held.{Counted, on, over, rest-of}
 use Rattle.flows.proofs.Scan.{scan-inside}
-use Rattle.samples.proofs.Sampling.{behind-cut, behind-got, counted-scan, fields-counted, sample-thrift}
+use Rattle.samples.proofs.Sampling.{behind-cut, behind-got, counted-scan}
 use Rattle.datagram.specs.declared.header.Header.{Header}
-use Rattle.datagram.specs.declared.one.Judged.{Judged}
 use Rattle.datagram.specs.Shown.{header-fields, Is-judged, root}
 
 module _ (s : List ℕ) (c : Cursor) where

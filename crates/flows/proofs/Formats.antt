@@ -3,11 +3,11 @@ use Prim.Native.Nat.{ℕ}
 use mathlib.Core.Path.{_≡_, sym, ap, _∙_}
 use mathlib.Core.List.{List}
 use borrow.Author.Tests.{ne-eqb}
-use Rattle.reading.specs.Script.{Value, Found, nothing, Script, give}
-use Rattle.reading.specs.Cursor.{Out, got, stop, then, follow}
+use Rattle.reading.specs.Script.{Value, nothing, Script, give}
+use Rattle.reading.specs.Cursor.{got, follow}
 use Rattle.reading.specs.Layout.{fields, opened, flows}
 use Rattle.reading.specs.Answer.{layout-of}
-use Rattle.reading.proofs.Fields.{fields-out, fields-then, shown-reads, shown-halts}
+use Rattle.reading.proofs.Fields.{fields-then, shown-reads, shown-halts}
 use Rattle.xdr.specs.declared.Cursor.{Cursor}
 use Rattle.xdr.specs.declared.Passed.{Passed}
 use Rattle.xdr.specs.declared.Passed.the-variants as passed

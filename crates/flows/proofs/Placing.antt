@@ -1,20 +1,18 @@
 -- The second pass: a law for each need of its functions, with the facts that the code has there. Assumes nothing.
-use Prim.Native.Nat.{ℕ, zero, suc, _+_, _*_, _-_, _%_, _^_, _≤_, _<_}
-use mathlib.Core.Path.{_≡_, refl, sym, ap, _∙_}
+use Prim.Native.Nat.{ℕ, zero, suc, _+_, _*_, _-_, _%_, _≤_, _<_}
+use mathlib.Core.Path.{_≡_, sym, ap, _∙_}
 use mathlib.Core.List.{List, [], _∷_, _++_}
 use native.Mathlib.Omega.{arith}
 use native.Mathlib.Nat.{add-zero}
-use native.Mathlib.Numerals.{sub-one}
 use lib.ListN.{length, take}
 use lib.Seq.{length-take-le}
 use mir.Syntax.{w32, w64}
 use mir.Val.{Fits}
 use Rattle.reading.specs.Bytes.{be4, padded}
 use Rattle.reading.specs.Script.{Range, Forest, bare, tree, _⊕_, Found, Script}
-use Rattle.reading.specs.Cursor.{Place, Out, got, stop, times, follow}
+use Rattle.reading.specs.Cursor.{Out, times, follow}
 use Rattle.reading.specs.Layout.{words, last-number, opened, ranged, between, framed, flows, flow, pdu}
 use Rattle.reading.specs.Answer.{size, rows, from}
-use Rattle.reading.proofs.Items.{never}
 use Rattle.reading.proofs.Words.{numbers, row-got}
 use Rattle.reading.proofs.Counts.{size-joined}
 use Rattle.reading.proofs.Stored.{write, write-length, write-none, write-then, write-under, rows-length, rows-joined, rows-one}

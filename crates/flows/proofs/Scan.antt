@@ -1,22 +1,20 @@
 -- The first pass: a law for each way out of its functions, with the facts that the code has there. Assumes nothing.
-use Prim.Native.Nat.{ℕ, zero, suc, _+_, _*_, _-_, _^_, _≤_, _<_}
+use Prim.Native.Nat.{ℕ, zero, suc, _+_, _-_, _^_, _≤_, _<_}
 use mathlib.Core.Path.{_≡_, refl, sym, ap, _∙_}
 use mathlib.Core.List.{List, [], _∷_}
 use native.Mathlib.Omega.{arith}
 use native.Mathlib.Numerals.{sub-one}
-use borrow.Author.Needs.{needs}
 use borrow.Author.Tests.{ne-eqb}
 use lib.ListN.{length, take}
 use lib.Seq.{length-take-le}
 use mir.Syntax.{w64}
 use mir.Val.{Fits}
-use Rattle.reading.specs.Script as script
 use Rattle.reading.specs.Script.{number, Found, nothing, word, opaque, Script, give}
 use Rattle.reading.specs.Cursor.{Place, Out, got, stop, read-item, times, follow}
 use Rattle.reading.specs.Layout.{words, last-number, opened, flows, flow, pdu}
 use Rattle.reading.specs.Answer.{size}
 use Rattle.reading.proofs.Items.{never, word-seen}
-use Rattle.reading.proofs.Counts.{counted, counted-stop, counted-none, turn-got, turn-stop, turns-done, resumed, framing, framing-cut, framing-short, framing-got, frame-at, frame-stop, frame-held, Framed-at, framing-lies, pdu-cut, pdu-held, fields-stop, flat-got, each-held}
+use Rattle.reading.proofs.Counts.{counted, counted-stop, counted-none, turn-got, turn-stop, turns-done, resumed, framing, framing-cut, framing-short, framing-got, frame-at, frame-stop, frame-held, Framed-at, framing-lies, pdu-cut, pdu-held, fields-stop, each-held}
 use Rattle.reading.proofs.Bounds.{Owes, owes}
 use Rattle.reading.proofs.Room.{Thrifty, thrifty-flow, thrifty-pdu}
 use Rattle.xdr.specs.declared.Cursor.{Cursor}

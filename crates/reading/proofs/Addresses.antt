@@ -1,11 +1,11 @@
 -- An address by its type word, and then by the block that the type has. Assumes nothing.
 use Prim.Native.Nat.{ℕ, _-_}
-use mathlib.Core.Path.{_≡_, refl, sym}
+use mathlib.Core.Path.{_≡_}
 use mathlib.Core.List.{List, _++_, append-nil}
 use lib.Dec.{leb}
 use lib.ListN.{replicate}
-use Rattle.reading.specs.Script.{Width, four, sixteen, octet-count, Value, number, octets, address, Item, tested, block}
-use Rattle.reading.specs.Cursor.{Place, Out, got, stop, then, read-item}
+use Rattle.reading.specs.Script.{Width, four, sixteen, octet-count, number, octets, address, Item, tested, block}
+use Rattle.reading.specs.Cursor.{Place, got, stop, read-item}
 use Rattle.reading.specs.Layout.{addr}
 use Rattle.reading.proofs.Fields.{address-out, field-out}
 

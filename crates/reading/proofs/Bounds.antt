@@ -1,16 +1,16 @@
 -- Demand 3: four bytes for each step, on acceptance and on refusal. By induction on the script, once for every layout. Assumes nothing.
-use Prim.Native.Nat.{ℕ, zero, suc, _+_, _*_, _-_, _%_, _≤_, _<_}
+use Prim.Native.Nat.{ℕ, zero, suc, _+_, _*_, _-_, _≤_}
 use mathlib.Core.Path.{_≡_, refl}
 use mathlib.Core.Bool.{Bool, true, false, cond}
 use mathlib.Core.List.{List}
 use native.Mathlib.Omega.{arith}
 use borrow.Author.Tests.{leb-true}
 use lib.Dec.{leb}
-use lib.ListN.{length, take, drop}
+use lib.ListN.{length, take}
 use lib.Seq.{length-take-le}
 use Rattle.reading.specs.Bytes.{be4, padded}
 use Rattle.reading.specs.Utf8.{utf8}
-use Rattle.reading.specs.Script.{Width, four, six, eight, sixteen, octet-count, Span, Value, number, octets, part, Found, nothing, _&&_, Item, word, tested, long, int, block, opaque, string, Script, give, refuse, here, item, within, repeat}
+use Rattle.reading.specs.Script.{Width, four, six, eight, sixteen, octet-count, Span, number, part, Found, _&&_, Item, word, tested, long, int, block, opaque, string, Script, give, refuse, here, item, within, repeat}
 use Rattle.reading.specs.Cursor.{Place, Out, got, stop, Reader, then, on, fixed, bytes, read-opaque, read-item, times, inside, follow}
 
 -- what an answer from the place p owes to the input s

@@ -7,7 +7,7 @@ use native.Mathlib.Nat.{add-zero, add-assoc}
 use borrow.Author.Tests.{le-leb}
 use lib.ListN.{length, take, drop, length-append}
 use Rattle.reading.specs.Bytes.{be8}
-use Rattle.reading.specs.Script.{octet-count, Span, Value, Found, Item, word, tested, long, int, block, opaque, string, Script, give, refuse, here, item, within, repeat}
+use Rattle.reading.specs.Script.{octet-count, Value, Found, Item, word, tested, long, int, block, opaque, string, Script, give, refuse, here, item, within, repeat}
 use Rattle.reading.specs.Cursor.{Place, Out, got, Reader, then, read-opaque, read-item, times, inside, follow}
 use Rattle.reading.specs.Grammar.{Is-item, Meaning, Many, Is}
 use Rattle.reading.proofs.Stands.{place, Stands, be4-at, be4-here, front, back, opaque-there, payload-there, bytes-there, held}

@@ -1,17 +1,16 @@
 -- How many descriptors a reading needs, frame by frame: what a first pass over the input counts. Assumes nothing.
 use Prim.Native.Nat.{ℕ, zero, suc, _+_, _-_, _≤_}
 use mathlib.Core.Path.{_≡_, refl, sym, ap, _∙_}
-use mathlib.Core.Bool.{Bool, true, false, cond}
-use mathlib.Core.List.{List, []}
+use mathlib.Core.List.{List}
 use native.Mathlib.Omega.{arith}
 use native.Mathlib.Nat.{add-zero, add-assoc}
 use lib.ListN.{length, take}
 use Rattle.reading.specs.Bytes.{be4}
-use Rattle.reading.specs.Script.{Span, Value, number, part, Forest, bare, tree, _⊕_, Found, nothing, _&&_, Item, word, opaque, Script, give, refuse, here, item, within, repeat}
+use Rattle.reading.specs.Script.{Span, Value, number, part, Forest, bare, tree, _⊕_, Found, nothing, _&&_, word, opaque, Script, give, repeat}
 use Rattle.reading.specs.Cursor.{Place, Out, got, stop, Reader, then, read-opaque, read-item, times, inside, follow}
 use Rattle.reading.specs.Layout.{num, Field, fields, last-number, only, ranged, between, framed, pdu}
 use Rattle.reading.specs.Answer.{size}
-use Rattle.reading.proofs.Items.{never, Split, split, fixed-read, Opaque-read, opaque-read}
+use Rattle.reading.proofs.Items.{never, split, fixed-read, Opaque-read, opaque-read}
 use Rattle.reading.proofs.Stands.{place}
 use Rattle.reading.proofs.Fields.{fields-out, fields-then, then-then, then-same}
 

@@ -1,17 +1,17 @@
 -- Demand 2 of the definitions, for one datagram: the cursor accepts exactly when a reading exists, and answers that reading. Assumes nothing.
-use Prim.Native.Nat.{ℕ, _+_, _≤_}
-use mathlib.Core.Path.{_≡_, refl, sym, ap, subst, _∙_}
+use Prim.Native.Nat.{ℕ, _+_}
+use mathlib.Core.Path.{_≡_, sym, ap, subst, _∙_}
 use mathlib.Core.List.{List, _++_}
 use native.Mathlib.Omega.{arith}
 use native.Mathlib.Nat.{zero-add}
-use lib.ListN.{length, drop, length-append}
+use lib.ListN.{length, length-append}
 use Rattle.reading.specs.Script.{Found}
-use Rattle.reading.specs.Cursor.{Place, Out, got, follow}
+use Rattle.reading.specs.Cursor.{Place, got, follow}
 use Rattle.reading.specs.Grammar.{Is}
 use Rattle.reading.specs.Layout.{datagram}
-use Rattle.reading.proofs.Stands.{place, Stands}
+use Rattle.reading.proofs.Stands.{place}
 use Rattle.reading.proofs.Complete.{complete}
-use Rattle.reading.proofs.Sound.{Read, sound}
+use Rattle.reading.proofs.Sound.{sound}
 
 -- a reading of s: it begins with bytes that are a datagram, and `rest` is left over
 pub record Reading (s : List ℕ) (f : Found) (bytes : ℕ) (items : ℕ) : Type 0 where

@@ -1,10 +1,10 @@
 -- A layout read field by field: what it gives is what its fields give, one after another. Assumes nothing.
 use Prim.Native.Nat.{ℕ, zero, suc}
-use mathlib.Core.Path.{_≡_, refl, sym, ap, _∙_, fun-ext}
+use mathlib.Core.Path.{_≡_, refl, sym, ap, _∙_}
 use mathlib.Core.List.{List, [], _∷_, _++_}
 use lib.Dec.{leb}
 use lib.ListN.{replicate, take}
-use Rattle.reading.specs.Script.{four, eight, sixteen, Value, octets, address, part, bare, Found, word, tested, block, Script, give}
+use Rattle.reading.specs.Script.{four, eight, sixteen, Value, octets, address, part, bare, Found, word, tested, block, Script}
 use Rattle.reading.specs.Cursor.{Place, Out, got, stop, Reader, then, read-item, times, follow}
 use Rattle.reading.specs.Layout.{num, oct, Field, plain, mac, addr, list, segments, address-of, any-word, segment, run-of, field, fields}
 use Rattle.reading.specs.Values.{zeros, alone, Reading, valued, reading}

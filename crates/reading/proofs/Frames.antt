@@ -1,15 +1,15 @@
 -- A frame that was read, taken apart: its format word, its span, and what was found inside it. Assumes nothing.
 use Prim.Native.Nat.{ℕ, _+_, _≤_}
-use mathlib.Core.Path.{_≡_, refl, sym, ap, _∙_}
+use mathlib.Core.Path.{_≡_, sym, ap, _∙_}
 use mathlib.Core.List.{List}
 use native.Mathlib.Omega.{arith}
 use lib.ListN.{length, take}
 use lib.Seq.{length-take-le}
 use Rattle.reading.specs.Bytes.{be4, padded}
 use Rattle.reading.specs.Script.{Span, Value, number, Found, word, Script}
-use Rattle.reading.specs.Cursor.{Place, Out, got, stop, then, on, fixed, read-opaque, read-item, times, inside, follow}
+use Rattle.reading.specs.Cursor.{Place, got, read-opaque, read-item, times, inside, follow}
 use Rattle.reading.specs.Layout.{num, only, ranged, between, framed, pdu}
-use Rattle.reading.proofs.Items.{never, Split, split, fixed-read, Opaque-read, opaque-read}
+use Rattle.reading.proofs.Items.{split, fixed-read, Opaque-read, opaque-read}
 use Rattle.reading.proofs.Stands.{place}
 
 -- a word that was read, by its value

@@ -8,7 +8,7 @@ use borrow.Author.Tests.{le-leb, leb-true}
 use lib.Dec.{leb}
 use lib.ListN.{length}
 use Rattle.reading.specs.Bytes.{be4, padded}
-use Rattle.reading.specs.Script.{Span, Value, number, Item, word, tested}
+use Rattle.reading.specs.Script.{Span, number, word, tested}
 use Rattle.reading.specs.Cursor.{Place, Out, got, stop, then, on, fixed, read-opaque, read-item}
 
 -- a refusal is no answer

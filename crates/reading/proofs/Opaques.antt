@@ -1,6 +1,6 @@
 -- An opaque by its length word, and a string by its opaque. Assumes nothing.
 use Prim.Native.Nat.{ℕ, _+_, _-_, _≤_, _<_}
-use mathlib.Core.Path.{_≡_, refl, sym, ap, _∙_}
+use mathlib.Core.Path.{_≡_, sym, ap, _∙_}
 use mathlib.Core.Bool.{Bool, true, false, cond}
 use mathlib.Core.List.{List}
 use native.Mathlib.Omega.{arith}
@@ -9,9 +9,9 @@ use lib.Dec.{leb}
 use lib.ListN.{length}
 use Rattle.reading.specs.Bytes.{be4, padded}
 use Rattle.reading.specs.Utf8.{utf8}
-use Rattle.reading.specs.Script.{Span, Value, number, part, Item, word, opaque, string}
+use Rattle.reading.specs.Script.{Span, number, part, word, opaque, string}
 use Rattle.reading.specs.Cursor.{Place, Out, got, stop, then, on, fixed, max-opaque, bytes, read-opaque, read-item}
-use Rattle.reading.proofs.Items.{never, Split, split, word-seen, Opaque-read, opaque-read}
+use Rattle.reading.proofs.Items.{never, split, word-seen, opaque-read}
 
 module _ (s : List ℕ) (p : Place) where
   pub opaque-cut : {c a n : ℕ} → stop c a n ≡ read-item word s p → stop c a n ≡ read-item opaque s p

@@ -2,17 +2,17 @@
 use Prim.Native.Nat.{ℕ, zero, suc, _+_, _*_, _-_, _/_, _≤_}
 use mathlib.Core.Path.{_≡_, refl, sym, ap, _∙_, subst}
 use mathlib.Core.Bool.{Bool, true, false, cond}
-use mathlib.Core.List.{List, [], _∷_, _++_}
+use mathlib.Core.List.{List, [], _∷_}
 use native.Mathlib.Omega.{arith}
 use borrow.Author.Tests.{leb-true, leb-false, ne-eqb}
 use lib.Dec.{leb, eqb}
 use lib.ListN.{length, take}
 use Rattle.reading.specs.Bytes.{be4, padded}
 use Rattle.reading.specs.Script.{Span, Value, Forest, bare, _⊕_, Found, nothing, _&&_, Script, give, repeat}
-use Rattle.reading.specs.Cursor.{Place, Out, got, stop, Reader, then, times, follow}
-use Rattle.reading.specs.Layout.{Field, fields, Row, last-number, opened, words, only, ranged, between, framed, pdu, flows}
+use Rattle.reading.specs.Cursor.{Place, Out, got, stop, then, times, follow}
+use Rattle.reading.specs.Layout.{Field, fields, Row, last-number, opened, words, ranged, between, framed, pdu, flows}
 use Rattle.reading.specs.Answer.{from}
-use Rattle.reading.proofs.Items.{never, Split, split}
+use Rattle.reading.proofs.Items.{never, split}
 use Rattle.reading.proofs.Stands.{place}
 use Rattle.reading.proofs.Bounds.{Owes, owes}
 use Rattle.reading.proofs.Steps.{Alike, both-got, both-stop, steady, steady-times}

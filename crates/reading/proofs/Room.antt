@@ -1,23 +1,22 @@
 -- Demand 3: four bytes for each descriptor. Assumes nothing.
 use Prim.Native.Nat.{ℕ, zero, suc, _+_, _*_, _-_, _≤_}
-use mathlib.Core.Path.{_≡_, refl, sym, ap, _∙_}
+use mathlib.Core.Path.{_≡_, sym, ap, _∙_}
 use mathlib.Core.Bool.{Bool, true, false, cond}
-use mathlib.Core.List.{List, [], _∷_, _++_}
+use mathlib.Core.List.{List, [], _∷_}
 use native.Mathlib.Omega.{arith}
 use lib.Dec.{eqb, leb}
-use lib.ListN.{length, take}
-use lib.Seq.{length-take-le}
-use Rattle.reading.specs.Bytes.{be4, padded}
-use Rattle.reading.specs.Script.{Span, Value, number, Found, nothing, _&&_, word, tested, Script, give, refuse, item, within, repeat}
-use Rattle.reading.specs.Cursor.{Place, Out, got, stop, Reader, then, on, read-opaque, read-item, times, inside, follow}
-use Rattle.reading.specs.Layout.{num, Field, addr, fields, Row, _⟼_, _⟼_each_, last-number, opened, words, only, ranged, between, framed, pdu, flows, flow, counter, samples, sample, header, datagram-to}
+use lib.ListN.{length}
+use Rattle.reading.specs.Bytes.{be4}
+use Rattle.reading.specs.Script.{Value, number, Found, nothing, _&&_, word, tested, Script, give, repeat}
+use Rattle.reading.specs.Cursor.{Place, got, stop, Reader, then, on, read-item, times, follow}
+use Rattle.reading.specs.Layout.{Field, addr, fields, Row, last-number, opened, words, ranged, between, framed, pdu, flows, flow, counter, samples, sample, header, datagram-to}
 use Rattle.reading.specs.Answer.{size}
-use Rattle.reading.proofs.Items.{never, Split, split, Opaque-read, opaque-read}
+use Rattle.reading.proofs.Items.{never, split}
 use Rattle.reading.proofs.Stands.{place}
 use Rattle.reading.proofs.Bounds.{Owes, owes, owes-item}
 use Rattle.reading.proofs.Fields.{field-out, fields-out, fields-then}
 use Rattle.reading.proofs.Counts.{size-joined, repeat-is}
-use Rattle.reading.proofs.Frames.{Frame, frame-read, span-length, Pdu, pdu-read}
+use Rattle.reading.proofs.Frames.{frame-read, span-length, pdu-read}
 
 -- where a reader accepts, it passed four bytes for each descriptor that it found
 abbrev pub Thrifty : Reader Found → Type 0

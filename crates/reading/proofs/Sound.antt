@@ -1,20 +1,20 @@
 -- Demand 2, the other half: what the cursor gives is a reading by the grammar. By induction on the script. Assumes nothing.
-use Prim.Native.Nat.{ℕ, zero, suc, _+_, _-_, _≤_, _<_}
+use Prim.Native.Nat.{ℕ, zero, suc, _+_, _-_, _≤_}
 use mathlib.Core.Path.{_≡_, refl, sym, ap, _∙_, subst}
 use mathlib.Core.Bool.{Bool, true, false, cond}
-use mathlib.Core.List.{List, [], _∷_, _++_, append-assoc, append-nil}
+use mathlib.Core.List.{List, [], _++_, append-assoc}
 use native.Mathlib.Omega.{arith}
-use native.Mathlib.Nat.{add-zero, add-assoc, zero-add}
+use native.Mathlib.Nat.{add-zero, add-assoc}
 use borrow.Author.Tests.{leb-true}
 use lib.Dec.{leb}
 use lib.ListN.{length, take, drop, take-append-drop, length-drop, length-append}
 use lib.Seq.{length-take-le, drop-drop, drop-at, take-add}
 use Rattle.reading.specs.Bytes.{signed, be4, be8, pads, padded}
 use Rattle.reading.specs.Utf8.{utf8}
-use Rattle.reading.specs.Script.{Width, octet-count, Span, Value, number, integer, octets, part, Found, nothing, _&&_, Item, word, tested, long, int, block, opaque, string, Script, give, refuse, here, item, within, repeat}
+use Rattle.reading.specs.Script.{octet-count, Span, Value, number, integer, octets, part, Found, nothing, Item, word, tested, long, int, block, opaque, string, Script, give, refuse, here, item, within, repeat}
 use Rattle.reading.specs.Cursor.{Place, Out, got, stop, Reader, then, on, fixed, bytes, read-opaque, read-item, times, inside, follow}
 use Rattle.reading.specs.Grammar.{Opaque, Is-item, Meaning, Many, Is}
-use Rattle.reading.proofs.Items.{never, Split, split, fixed-read, Opaque-read, opaque-read}
+use Rattle.reading.proofs.Items.{never, split, fixed-read, Opaque-read, opaque-read}
 use Rattle.reading.proofs.Stands.{place, Stands, be4-at, be4-here, drop-take}
 
 -- n bytes that are there, cut out

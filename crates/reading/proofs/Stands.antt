@@ -8,8 +8,7 @@ use borrow.Author.Tests.{le-leb}
 use lib.ListN.{length, take, drop, getD, length-append, List·getD-append}
 use lib.Seq.{getD-drop, drop-drop, drop-at, take-at, length-take-le, take-nil, drop-nil}
 use Rattle.reading.specs.Bytes.{be4, padded}
-use Rattle.reading.specs.Script.{Span}
-use Rattle.reading.specs.Cursor.{Place, Out, got, stop, fixed, read-opaque}
+use Rattle.reading.specs.Cursor.{Place, got, fixed, read-opaque}
 use Rattle.reading.specs.Grammar.{Opaque}
 
 abbrev pub place : ℕ → ℕ → Place

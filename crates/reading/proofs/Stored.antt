@@ -1,6 +1,6 @@
 -- Descriptors written into a store: one run of words after another, a parent's own under its children's, and the rest of a store lent on.
 -- Assumes nothing.
-use Prim.Native.Nat.{ℕ, zero, suc, _+_, _*_, _-_, _≤_, _<_}
+use Prim.Native.Nat.{ℕ, suc, _+_, _*_, _-_, _≤_, _<_}
 use mathlib.Core.Path.{_≡_, refl, sym, ap, _∙_}
 use mathlib.Core.List.{List, [], _∷_, _++_, append-nil, append-assoc}
 use native.Mathlib.Omega.{arith}
@@ -10,7 +10,6 @@ use lib.ListN.{length, set, take, drop, length-append, length-drop, take-append-
 use lib.Seq.{sets, length-sets, sets-eq, set-comm, take-all, length-take-le}
 use Rattle.reading.specs.Script.{Range, Forest, bare, tree, _⊕_}
 use Rattle.reading.specs.Answer.{size, rows}
-use Rattle.reading.proofs.Counts.{size-joined}
 
 -- the list l with ws stored from place i on
 unfoldable pub write : List ℕ → ℕ → List ℕ → List ℕ

@@ -7,7 +7,7 @@ use native.Mathlib.Omega.{arith}
 use borrow.Author.Tests.{le-leb, lt-leb, leb-true, leb-false}
 use lib.Dec.{leb}
 use lib.ListN.{length}
-use Rattle.reading.specs.Script.{Value, number, Found, nothing, _&&_, word}
+use Rattle.reading.specs.Script.{Value, number, nothing, _&&_, word}
 use Rattle.reading.specs.Cursor.{Place, Out, got, stop, then, on, read-item, times, follow}
 use Rattle.reading.specs.Bytes.{be4}
 use Rattle.reading.specs.Layout.{plain, any-word, words}

@@ -1,12 +1,12 @@
 -- What a decoder answers to a script: it goes through the input with a cursor, and stops at the first fault. Assumes nothing.
 use Prim.Native.Nat.{ℕ, zero, suc, _+_}
-use mathlib.Core.Bool.{Bool, true, false, cond}
-use mathlib.Core.List.{List, [], _∷_, _++_}
+use mathlib.Core.Bool.{cond}
+use mathlib.Core.List.{List}
 use lib.ListN.{length, take, drop}
 use lib.Dec.{leb}
 use Rattle.reading.specs.Bytes.{be4, be8, signed, padded}
 use Rattle.reading.specs.Utf8.{utf8}
-use Rattle.reading.specs.Script.{Width, octet-count, Span, Value, number, integer, octets, part, Found, nothing, _&&_, Item, word, tested, long, int, block, opaque, string, Script, give, refuse, here, item, within, repeat}
+use Rattle.reading.specs.Script.{octet-count, Span, Value, number, integer, octets, part, Found, nothing, _&&_, Item, word, tested, long, int, block, opaque, string, Script, give, refuse, here, item, within, repeat}
 
 -- the next byte, counted from the input's first, and the steps: the items wholly read and accepted so far
 pub record Place : Type 0 where

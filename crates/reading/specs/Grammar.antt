@@ -1,8 +1,8 @@
 -- Which bytes are a script's: by joining byte strings end to end, with no cursor, no test for room and no order of faults. Assumes nothing.
 use Prim.Native.Nat.{ℕ, zero, suc, _+_, _≤_}
 use mathlib.Core.Path.{_≡_}
-use mathlib.Core.Bool.{Bool, true}
-use mathlib.Core.List.{List, [], _∷_, _++_}
+use mathlib.Core.Bool.{true}
+use mathlib.Core.List.{List, [], _++_}
 use lib.ListN.{length}
 use Rattle.reading.specs.Utf8.{utf8}
 use Rattle.reading.specs.Bytes.{be4, be8, signed, pads}

@@ -1,11 +1,11 @@
 -- Document 01's layouts, as scripts: its two tables row by row, and the frames around them. Assumes nothing.
 use Prim.Native.Nat.{ℕ, zero, suc, _+_, _-_}
-use mathlib.Core.Bool.{Bool, true, false, cond}
+use mathlib.Core.Bool.{cond}
 use mathlib.Core.List.{List, [], _∷_, _++_}
 use lib.ListN.{replicate, take}
 use lib.Dec.{eqb, leb}
 use Rattle.reading.specs.Numbers.{known, header-protocols}
-use Rattle.reading.specs.Script.{Width, four, six, eight, sixteen, Span, Value, number, integer, octets, address, part, Range, Forest, bare, tree, Found, nothing, Item, word, tested, long, block, opaque, string, Script, give, refuse, here, item, within, repeat}
+use Rattle.reading.specs.Script.{Width, four, six, eight, sixteen, Span, Value, number, integer, octets, address, part, Forest, bare, tree, Found, nothing, Item, word, tested, long, block, opaque, string, Script, give, refuse, here, item, within, repeat}
 
 -- ---- fields
 

@@ -1,6 +1,6 @@
 -- The number tables that a layout tests a word against, as the crate has them. Assumes nothing.
 use Prim.Native.Nat.{ℕ}
-use mathlib.Core.Bool.{Bool, true, false}
+use mathlib.Core.Bool.{Bool, false}
 use mathlib.Core.List.{List, [], _∷_}
 use lib.Dec.{eqb}
 use Rattle.reading.specs.Utf8.{_or_}

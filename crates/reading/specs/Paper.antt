@@ -5,7 +5,7 @@ use mathlib.Core.List.{List, [], _∷_, _++_, map}
 use lib.ListN.{length, take, replicate}
 use Rattle.reading.specs.Bytes.{be4}
 use Rattle.reading.specs.Numbers.{known, header-protocols}
-use Rattle.reading.specs.Cursor.{read-opaque, read-item, times, inside, follow}
+use Rattle.reading.specs.Cursor.{read-item, follow}
 use Rattle.reading.specs.Layout.{address-of, run-of, field, fields, last-number, opened, flows, flow, samples, datagram-to}
 use Rattle.reading.specs.Answer.{size, rows, Header, header-of, no-header, Answer, refused, stored, one, tried, datagrams, run}
 

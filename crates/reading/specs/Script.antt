@@ -1,8 +1,8 @@
 -- A script: what is to be read, item by item. Document 01's layouts are written as scripts, once; `Cursor.antt` says what a decoder
 -- answers to one, and `Grammar.antt` which bytes are one. Assumes nothing.
-use Prim.Native.Nat.{ℕ, zero, suc}
+use Prim.Native.Nat.{ℕ}
 use mathlib.Core.Bool.{Bool}
-use mathlib.Core.List.{List, [], _∷_, _++_}
+use mathlib.Core.List.{List, [], _++_}
 use lib.IntN.{ℤ}
 
 -- a range of the input

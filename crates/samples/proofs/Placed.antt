@@ -1,5 +1,5 @@
 -- The second pass over samples: a law for each need of its functions, with the facts that the code has there. Assumes nothing.
-use Prim.Native.Nat.{ℕ, _+_, _*_, _-_, _%_, _≤_, _<_}
+use Prim.Native.Nat.{ℕ, _+_, _*_, _-_, _%_, _≤_}
 use mathlib.Core.Path.{_≡_, refl, sym, ap, _∙_}
 use mathlib.Core.List.{List, [], _∷_}
 use native.Mathlib.Omega.{arith}
@@ -7,19 +7,19 @@ use native.Mathlib.Nat.{add-zero}
 use borrow.Author.Needs.{needs}
 use borrow.Author.Tests.{ne-eqb}
 use lib.ListN.{length, take}
-use mir.Syntax.{w32, w64}
+use mir.Syntax.{w64}
 use mir.Val.{Fits}
 use Rattle.reading.specs.Bytes.{be4}
-use Rattle.reading.specs.Script.{nothing, Found, Script, give, repeat}
-use Rattle.reading.specs.Cursor.{Place, Out, times, follow}
-use Rattle.reading.specs.Layout.{fields, words, last-number, opened, framed, counter, samples}
+use Rattle.reading.specs.Script.{Found, Script, give, repeat}
+use Rattle.reading.specs.Cursor.{Out, times, follow}
+use Rattle.reading.specs.Layout.{fields, words, last-number, opened, counter, samples}
 use Rattle.reading.specs.Answer.{size, rows, from}
 use Rattle.reading.proofs.Words.{numbers, row-got}
 use Rattle.reading.proofs.Stored.{write, write-none}
 use Rattle.reading.proofs.Places.{Accepted, ranges-of, Each-at, each-lies, words-lie}
 use Rattle.flows.specs.declared.put.Pen.{Pen}
 use Rattle.flows.specs.declared.put.Written.{Written}
-use Rattle.flows.specs.Written.{Ready, Put, written, placed, Filled, filled, fills}
+use Rattle.flows.specs.Written.{Ready, written, placed, filled, fills}
 use Rattle.flows.proofs.Placing as placing
 use Rattle.flows.proofs.Placing.{a-pen, a-put, next-is, store-is}
 

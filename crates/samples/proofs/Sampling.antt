@@ -1,16 +1,14 @@
 -- The first pass over samples: a law for each way out of its functions, with the facts that the code has there. Assumes nothing.
-use Prim.Native.Nat.{ℕ, _+_, _^_, _≤_, _<_}
+use Prim.Native.Nat.{ℕ, _+_, _≤_}
 use mathlib.Core.Path.{_≡_, refl, sym, ap, _∙_}
 use mathlib.Core.List.{List, []}
 use native.Mathlib.Omega.{arith}
 use borrow.Author.Needs.{needs}
 use borrow.Author.Tests.{ne-eqb}
-use lib.ListN.{length, take}
-use mir.Syntax.{w64}
-use mir.Val.{Fits}
-use Rattle.reading.specs.Script.{Value, Found, nothing, Script, give, repeat}
-use Rattle.reading.specs.Cursor.{Place, Out, got, stop, times, follow}
-use Rattle.reading.specs.Layout.{Field, fields, last-number, opened, framed, flow, counter, samples, sample}
+use lib.ListN.{take}
+use Rattle.reading.specs.Script.{Value, Script, give, repeat}
+use Rattle.reading.specs.Cursor.{Out, got, times, follow}
+use Rattle.reading.specs.Layout.{Field, fields, last-number, opened, framed, counter, samples, sample}
 use Rattle.reading.specs.Answer.{layout-of}
 use Rattle.reading.proofs.Counts.{counted, counted-none, resumed, frame-at, frame-stop, frame-held, fields-stop, each-held}
 use Rattle.reading.proofs.Room.{thrifty-counter, thrifty-sample}

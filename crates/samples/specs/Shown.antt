@@ -3,8 +3,6 @@ use mathlib.Core.List.{List, [], _∷_}
 use Rattle.reading.specs.Script.{Value, number}
 use Rattle.samples.specs.declared.fields.FlowSample.{FlowSample}
 use Rattle.samples.specs.declared.fields.CountersSample.{CountersSample}
-use Rattle.samples.specs.declared.fields.DataSourceExpanded.{DataSourceExpanded}
-use Rattle.samples.specs.declared.fields.InterfaceExpanded.{InterfaceExpanded}
 use Rattle.samples.specs.declared.fields.FlowSampleExpanded.{FlowSampleExpanded}
 use Rattle.samples.specs.declared.fields.CountersSampleExpanded.{CountersSampleExpanded}
 use Rattle.samples.specs.declared.fields.DiscardedPacket.{DiscardedPacket}

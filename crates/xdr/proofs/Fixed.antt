@@ -1,17 +1,15 @@
 -- Blocks and addresses: a law for each way out of their methods, at every width. Assumes nothing.
 use mathlib.Core.Path.{_≡_, refl, ap, _∙_, sym}
-use mathlib.Core.Bool.{true, false}
 use mathlib.Core.List.{List, [], _∷_, _++_}
 use Prim.Native.Nat.{ℕ, _+_, _-_, _≤_, _<_}
 use native.Mathlib.Omega.{arith}
-use borrow.Author.Needs.{needs}
 use borrow.Author.Tests.{le-leb, lt-leb}
 use lib.ListN.{length, take, drop, replicate, length-drop, take-append-drop}
 use lib.Seq.{take-at, drop-at, length-take-le}
 use Rattle.reading.specs.Script.{Width, four, six, eight, sixteen, octet-count, Value, octets, address, nothing, word, block}
-use Rattle.reading.specs.Cursor.{Place, Out, got, stop, fixed, read-item}
+use Rattle.reading.specs.Cursor.{Out, got, stop, fixed, read-item}
 use Rattle.reading.specs.Layout.{addr, bytes}
-use Rattle.reading.specs.Values.{Reading, reading}
+use Rattle.reading.specs.Values.{reading}
 use Rattle.reading.proofs.Items.{tested-cut, tested-got, tested-refused}
 use Rattle.reading.proofs.Fields.{address-out, field-out, reads-shown, halts-shown, shown-reads, shown-halts, sole-gives, sole-halts, sole-gave, sole-halted}
 use Rattle.reading.proofs.Addresses as addresses
@@ -24,7 +22,7 @@ use Rattle.xdr.specs.declared.Word.{Word}
 use Rattle.xdr.specs.declared.Word.the-variants as a-word
 use Rattle.xdr.specs.declared.Block.{Block}
 use Rattle.xdr.specs.declared.Addressed.{Addressed}
-use Rattle.xdr.specs.Shown.{place, Inside, refused, refusal, passed-out, word-out, Reads, Is-block, an-address, address-shown, address-valued, no-address}
+use Rattle.xdr.specs.Shown.{place, refused, refusal, passed-out, word-out, Reads, Is-block, an-address, address-shown, address-valued, no-address}
 use Rattle.xdr.proofs.Laws as laws
 
 pub wide : {n : ℕ} (w : Width) → n ≡ octet-count w → 0 < n

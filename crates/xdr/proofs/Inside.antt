@@ -5,7 +5,7 @@ use mathlib.Core.List.{List}
 use native.Mathlib.Omega.{arith}
 use lib.ListN.{length}
 use Rattle.reading.specs.Script.{Value, Found, Item, Script}
-use Rattle.reading.specs.Cursor.{Place, Out, got, read-item, follow}
+use Rattle.reading.specs.Cursor.{got, read-item, follow}
 use Rattle.reading.proofs.Bounds.{Owes, owes-item, owes}
 use Rattle.xdr.specs.declared.Cursor.{Cursor}
 use Rattle.xdr.specs.Shown.{place, Inside}

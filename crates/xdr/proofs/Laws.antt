@@ -1,7 +1,7 @@
 -- What the items' answers say of the reading: a law for each way out of a method, with the facts that the code has there. Assumes nothing.
-use mathlib.Core.Path.{_≡_, refl, sym, ap, _∙_}
+use mathlib.Core.Path.{_≡_, sym, _∙_}
 use mathlib.Core.Bool.{Bool, true, false}
-use mathlib.Core.List.{List, [], _∷_}
+use mathlib.Core.List.{List}
 use Prim.Native.Nat.{ℕ, _+_, _*_, _-_, _/_, _^_, _≤_, _<_}
 use native.Mathlib.Omega.{arith}
 use lib.IntN.{ℤ}
@@ -12,12 +12,12 @@ use borrow.Author.Needs.{needs}
 use borrow.Author.Tests.{le-leb, lt-leb}
 use Rattle.reading.specs.Bytes.{be4, be8, signed, padded}
 use Rattle.reading.specs.Utf8.{utf8}
-use Rattle.reading.specs.Script.{Value, number, integer, part, Found, nothing, word, long, int, opaque, string}
-use Rattle.reading.specs.Cursor.{Place, Out, got, stop, fixed, max-opaque, bytes, read-item, times, follow}
+use Rattle.reading.specs.Script.{number, integer, part, nothing, word, long, int, opaque, string}
+use Rattle.reading.specs.Cursor.{got, fixed, max-opaque, bytes, read-item, times, follow}
 use Rattle.reading.specs.Layout.{any-word}
 use Rattle.reading.proofs.Items.{fixed-read, fixed-as, fixed-stops}
 use Rattle.reading.proofs.Opaques as opaques
-use Rattle.reading.proofs.Words.{words-got, words-stop, same-got, same-stop}
+use Rattle.reading.proofs.Words.{words-got, words-stop}
 use Rattle.xdr.specs.declared.Cursor.{Cursor}
 use Rattle.xdr.specs.declared.Refusal.{Refusal}
 use Rattle.xdr.specs.declared.Word.{Word}

@@ -4,7 +4,7 @@ use mathlib.Core.Path.{_≡_}
 use mathlib.Core.List.{List, [], _∷_}
 use lib.ListN.{length, take, drop, getD, replicate}
 use Rattle.reading.specs.Script as script
-use Rattle.reading.specs.Script.{octet-count, Value, number, integer, octets, address, Found, bare}
+use Rattle.reading.specs.Script.{octet-count, Value, number, integer, octets, address, bare}
 use Rattle.reading.specs.Cursor.{Place, Out, got, stop}
 use Rattle.reading.specs.Layout.{Field, bytes}
 use Rattle.reading.specs.Values.{Reading, reading}

@@ -1,4 +1,4 @@
-use Prim.Native.Nat.{ℕ, _≤_, _-_}
+use Prim.Native.Nat.{_≤_, _-_}
 use borrow.Author.Needs.{needs}
 use Rattle.lines.proofs.descriptors.Statement.{statement}
 use Rattle.lines.proofs.descriptors.Tie as tie

@@ -7,7 +7,6 @@ use Rattle.reading.specs.Layout.{flows, flow, pdu}
 use Rattle.reading.specs.Answer.{layout-of}
 use Rattle.reading.proofs.Counts.{counted}
 use Rattle.xdr.specs.Shown.{place}
-use Rattle.xdr.proofs.Rows.{reads-inside}
 use Rattle.flows.specs.Scanned.{Scan}
 use Rattle.flows.proofs.Scan as scan
 use borrow.Fn.Kinds.{In}

@@ -1,4 +1,3 @@
-use Rattle.samples.proofs.Placed as placed
 use Rattle.samples.proofs.Placed.{writing}
 use Rattle.samples.proofs.put.put_counter_record.Statement.{statement}
 use Rattle.samples.proofs.put.put_counter_record.Tie as tie

@@ -1,13 +1,11 @@
-use Prim.Native.Nat.{ℕ}
 use mathlib.Core.Path.{_≡_}
 use lib.ListN.{length}
 use Rattle.reading.specs.Cursor.{times, follow}
-use Rattle.reading.specs.Layout.{counter, sample}
+use Rattle.reading.specs.Layout.{sample}
 use Rattle.reading.specs.Answer.{from}
 use Rattle.flows.specs.Written as written
 use Rattle.flows.specs.Written.{Ready}
 use Rattle.flows.proofs.Placing.{a-pen, put-done}
-use Rattle.samples.proofs.Placed as placed
 use Rattle.samples.proofs.Placed.{writing}
 use Rattle.samples.proofs.put.put_samples.Statement.{statement}
 use Rattle.samples.proofs.put.put_samples.Tie as tie

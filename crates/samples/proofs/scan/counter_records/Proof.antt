@@ -1,7 +1,6 @@
-use Prim.Native.Nat.{ℕ}
 use mathlib.Core.Path.{_≡_}
 use Rattle.reading.specs.Cursor.{times, follow}
-use Rattle.reading.specs.Layout.{counter, sample}
+use Rattle.reading.specs.Layout.{counter}
 use Rattle.reading.proofs.Counts.{counted}
 use Rattle.xdr.specs.Shown.{place}
 use Rattle.flows.specs.Scanned.{Scan}

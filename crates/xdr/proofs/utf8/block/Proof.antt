@@ -1,6 +1,6 @@
 -- `xdr::utf8::block` meets its contract. The loop's invariant: all that was looked at is UTF8-1, or not. Assumes nothing.
 use Prim.Native.Nat.{_-_, _≤_}
-use mathlib.Core.Path.{_≡_, sym}
+use mathlib.Core.Path.{_≡_}
 use native.Mathlib.Omega.{arith}
 use borrow.Author.Needs.{needs}
 use lib.Dec.{leb, leb·zero}
