@@ -1,3 +1,4 @@
 pub mod Version
 pub mod Deciding
 pub mod Judging
+pub mod Running

@@ -6,12 +6,13 @@ use Rattle.reading.specs.Script.{Value, number}
 use Rattle.reading.specs.Cursor.{follow}
 use Rattle.reading.specs.Layout.{header, datagram}
 use Rattle.reading.specs.Answer as answer
-use Rattle.reading.specs.Answer.{nobody, refused}
+use Rattle.reading.specs.Answer.{nobody, no-header, refused}
 use Rattle.reading.proofs.Counts.{counted}
 use Rattle.xdr.specs.declared.Cursor.{Cursor}
 use Rattle.xdr.specs.Shown.{place, Reads, an-address}
 use Rattle.flows.specs.declared.put.Pen.{Pen}
 use Rattle.flows.specs.Scanned.{scanned-out}
+use Rattle.datagram.specs.declared.decode.Answer.{Answer}
 use Rattle.datagram.specs.declared.decode.Decoded.{Decoded}
 use Rattle.datagram.specs.declared.header.Header.{Header}
 use Rattle.datagram.specs.declared.one.Judged.{Judged}
@@ -29,6 +30,10 @@ pub record Is-judged (s : List ℕ) (c : Cursor) (k : ℕ) (r : Judged) : Type 0
 -- where a datagram's own descriptor goes: it has no parent
 abbrev pub root : ℕ → Pen
 root base = record { base = base; parent = nobody; next = 0 }
+
+-- where the descriptors of a run's next datagram go, behind n of them
+abbrev pub pen-at : ℕ → Pen
+pen-at n = record { base = 0; parent = nobody; next = n }
 
 -- the answer to one datagram, with the store that it leaves
 abbrev pub decoded : Decoded → List ℕ → answer.Answer
@@ -51,3 +56,7 @@ decoded r w = record {
 -- a refusal: the header is all zero, and any store stays as it was
 pub record Refuses (r : Decoded) (code at steps needed : ℕ) : Type 0 where
   pub leaves : (w : List ℕ) → decoded r w ≡ refused code at steps needed w
+
+-- the answer to a run, which has no header, with the store that it leaves
+abbrev pub ran : Answer → List ℕ → answer.Answer
+ran r w = record { code = r .code; at = r .at; steps = r .steps; needed = r .needed; head = no-header; store = w }

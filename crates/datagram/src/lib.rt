@@ -2,3 +2,4 @@
 pub mod decode;
 pub mod header;
 pub mod one;
+pub mod run;

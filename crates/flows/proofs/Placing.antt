@@ -44,6 +44,22 @@ a-pen b p n = record { base = b; parent = p; next = n }
 abbrev pub a-put : (at next : ℕ) → List ℕ → Put
 a-put a n l = record { at = a; next = n; store = l }
 
+-- one forest behind another is placed as the two of them
+module _ (base parent next : ℕ) (l : List ℕ) where
+  pub two-placed : {a b c m : ℕ} {t : Forest} {l″ : List ℕ} (f r : Forest) → b ≡ c → a ≡ b → t ≡ f ⊕ r → m ≡ next + size f → l″ ≡ write l (6 * next) (rows (base + next) parent f)
+      → a-put c (m + size r) (write l″ (6 * m) (rows (base + m) parent r)) ≡ a-put a (next + size t) (write l (6 * next) (rows (base + next) parent t))
+  two-placed {a} {b} {c} {m} {t} {l″} f r i j k x y =
+      let p : m + size r ≡ next + size t = ap (λ (v : ℕ). v + size r) x ∙ rw (k, size-joined) (omega arith) in
+      let q : base + m ≡ base + next + size f = omega arith in
+      let v : 6 * m ≡ 6 * next + length (rows (base + next) parent f) = rw rows-length (omega arith) in
+      let d : write l″ (6 * m) (rows (base + m) parent r) ≡ write l (6 * next) (rows (base + next) parent t) =
+      ap (λ (z : List ℕ). write z (6 * m) (rows (base + m) parent r)) y
+      ∙ write-then (rows (base + next) parent f) (rows (base + m) parent r) l (6 * next) (6 * m) v
+      ∙ ap (λ (z : ℕ). write l (6 * next) (rows (base + next) parent f ++ rows z parent r)) q
+      ∙ ap (λ (z : List ℕ). write l (6 * next) z) (sym (rows-joined (base + next) parent f r))
+      ∙ ap (λ (z : Forest). write l (6 * next) (rows (base + next) parent z)) (sym k) in
+      λ h. record { at = (sym i ∙ sym j) h; next = p h; store = d h }
+
 -- ---- so many in a row
 module _ (sc : Script) (n : ℕ) (s l : List ℕ) (at base parent next : ℕ) where
   again : Ready s l (a-pen base parent next) (times n (follow sc) s (from at)) → 0 < n → Turn-at sc (n - 1) s at × (times n (follow sc) s (from at) ≡ times (suc (n - 1)) (follow sc) s (from at))
@@ -83,21 +99,7 @@ module _ (sc : Script) (n : ℕ) (s l : List ℕ) (at base parent next : ℕ) wh
 
     pub put-turn : {u : Put} → placed (a-pen base parent next) (times n (follow sc) s (from at)) l ≡ u → placed (a-pen base parent (w .next)) (times (n - 1) (follow sc) s (from (w .at))) l′ ≡ u
     unfolding placed
-    put-turn {u} h = rw end (same (ranges-of (follow sc s (from at))) (ranges-of (times (n - 1) (follow sc) s (from (end-of (follow sc s (from at)))))) (again g z .0 .end) (ap end-of (again g z .1)) (split-up g z) on (store-is (a-pen base parent next) _ l e)) ∙ h
-      where
-        same : {a b c m : ℕ} {t : Forest} {l″ : List ℕ} (f r : Forest) → b ≡ c → a ≡ b → t ≡ f ⊕ r → m ≡ next + size f → l″ ≡ write l (6 * next) (rows (base + next) parent f)
-            → a-put c (m + size r) (write l″ (6 * m) (rows (base + m) parent r)) ≡ a-put a (next + size t) (write l (6 * next) (rows (base + next) parent t))
-        same {a} {b} {c} {m} {t} {l″} f r i j k x y =
-            let p : m + size r ≡ next + size t = ap (λ (v : ℕ). v + size r) x ∙ rw (k, size-joined) (omega arith) in
-            let q : base + m ≡ base + next + size f = omega arith in
-            let v : 6 * m ≡ 6 * next + length (rows (base + next) parent f) = rw rows-length (omega arith) in
-            let d : write l″ (6 * m) (rows (base + m) parent r) ≡ write l (6 * next) (rows (base + next) parent t) =
-            ap (λ (z : List ℕ). write z (6 * m) (rows (base + m) parent r)) y
-            ∙ write-then (rows (base + next) parent f) (rows (base + m) parent r) l (6 * next) (6 * m) v
-            ∙ ap (λ (z : ℕ). write l (6 * next) (rows (base + next) parent f ++ rows z parent r)) q
-            ∙ ap (λ (z : List ℕ). write l (6 * next) z) (sym (rows-joined (base + next) parent f r))
-            ∙ ap (λ (z : Forest). write l (6 * next) (rows (base + next) parent z)) (sym k) in
-            λ h. record { at = (sym i ∙ sym j) h; next = p h; store = d h }
+    put-turn {u} h = rw end (two-placed base parent next l (ranges-of (follow sc s (from at))) (ranges-of (times (n - 1) (follow sc) s (from (end-of (follow sc s (from at)))))) (again g z .0 .end) (ap end-of (again g z .1)) (split-up g z) on (store-is (a-pen base parent next) _ l e)) ∙ h
 
   pub put-done : {u : Put} → placed (a-pen base parent next) (times n (follow sc) s (from at)) l ≡ u → n ≤ 0 → a-put at next l ≡ u
   unfolding placed size rows

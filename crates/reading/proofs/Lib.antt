@@ -5,6 +5,7 @@ pub mod Fields
 pub mod Steps
 pub mod Counts
 pub mod Room
+pub mod Runs
 pub mod Frames
 pub mod Places
 pub mod Stored

@@ -152,7 +152,7 @@ pub datagram-is : (limit : ℕ) (s : List ℕ) (p : Place)
 unfolding datagram-to follow
 datagram-is limit s p = fields-then header _ s p
 
-last-place : {A : Type 0} {a b : A} {p q : Place} → got a p ≡ got b q → p ≡ q
+pub last-place : {A : Type 0} {a b : A} {p q : Place} → got a p ≡ got b q → p ≡ q
 last-place e = cc
 
 -- a header passes its version word
@@ -173,9 +173,10 @@ module _ (s : List ℕ) (p : Place) (h : p .at ≤ length s) where
       let y = ap (λ (r : Place). r .at) (last-place (u .second)) in
       (omega (arith, i, k .0, y), omega (arith, k .1, y))
 
-pub thrifty-datagram : (limit : ℕ) → Thrifty (follow (datagram-to limit))
+-- a datagram passes four bytes for each descriptor, and has one of its own
+passes : (limit : ℕ) (s : List ℕ) (p : Place) (a : Found) (q : Place) → p .at ≤ length s → follow (datagram-to limit) s p ≡ got a q → (4 * size (a .ranges) + p .at ≤ q .at) × (1 ≤ size (a .ranges))
 unfolding size
-thrifty-datagram limit s p a q h e =
+passes limit s p a q h e =
     let w = split (fields-out header s p) _ (sym (datagram-is limit s p) ∙ e) in
     let i = header-on s p h (w .first) in
     let v = split (times (last-number (w .value)) (follow (sample limit)) s (w .place)) _ (w .second) in
@@ -183,4 +184,12 @@ thrifty-datagram limit s p a q h e =
     let y = ap (λ (r : Place). r .at) (last-place (v .second)) in
     let g : got (whole (p .at) (w .value) (v .value) (v .place)) (v .place) ≡ got a q = v .second in
     let x : whole (p .at) (w .value) (v .value) (v .place) ≡ a = cc in
-    rw (← x) (omega (arith, i .0, k, y))
+    (rw (← x) (omega (arith, i .0, k, y)), rw (← x) (omega arith))
+
+pub thrifty-datagram : (limit : ℕ) → Thrifty (follow (datagram-to limit))
+thrifty-datagram limit s p a q h e = passes limit s p a q h e .0
+
+pub datagram-on : (limit : ℕ) (s : List ℕ) (p : Place) {a : Found} {q : Place} → p .at ≤ length s → follow (datagram-to limit) s p ≡ got a q → (p .at + 4 ≤ q .at) × (q .at ≤ length s)
+datagram-on limit s p {a} {q} h e =
+    let i = passes limit s p a q h e in
+    (omega (arith, i .0, i .1), steps-on (datagram-to limit) s p a q h e .1)

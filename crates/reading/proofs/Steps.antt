@@ -17,14 +17,14 @@ pub data Alike {A : Type 0} : Out A → Out A → Type 0 where
   both-stop : {c a m n : ℕ} → Alike (stop c a m) (stop c a n)
 
 -- at one position, whatever the steps
-abbrev Steady : {A : Type 0} → (Place → Out A) → Type 0
+abbrev pub Steady : {A : Type 0} → (Place → Out A) → Type 0
 Steady r = (p q : Place) → p .at ≡ q .at → Alike (r p) (r q)
 
-alike-then : {A B : Type 0} {o u : Out A} (f g : A → Place → Out B) → Alike o u → ((a : A) (p q : Place) → p .at ≡ q .at → Alike (f a p) (g a q)) → Alike (then o f) (then u g)
+pub alike-then : {A B : Type 0} {o u : Out A} (f g : A → Place → Out B) → Alike o u → ((a : A) (p q : Place) → p .at ≡ q .at → Alike (f a p) (g a q)) → Alike (then o f) (then u g)
 alike-then f g (both-got {a} {p} {q} e) h = h a p q e
 alike-then f g both-stop h = both-stop
 
-alike-cond : {A : Type 0} (b : Bool) {x y u v : Out A} → Alike x u → Alike y v → Alike (cond b x y) (cond b u v)
+pub alike-cond : {A : Type 0} (b : Bool) {x y u v : Out A} → Alike x u → Alike y v → Alike (cond b x y) (cond b u v)
 alike-cond true h g = h
 alike-cond false h g = g
 

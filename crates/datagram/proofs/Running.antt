@@ -1,0 +1,192 @@
+-- A run of datagrams: a law for each need of its two passes, with the facts that the code has there. Assumes nothing.
+use Prim.Native.Nat.{ℕ, _+_, _*_, _-_, _≤_, _<_}
+use mathlib.Core.Path.{_≡_, refl, sym, ap, _∙_, subst}
+use mathlib.Core.List.{List, [], _∷_, _++_}
+use native.Mathlib.Omega.{arith}
+use native.Mathlib.Nat.{add-zero}
+use borrow.Author.Needs.{needs}
+use lib.ListN.{length, take, drop, length-drop}
+use mir.Syntax.{w32, w64}
+use mir.Val.{Fits}
+use Rattle.reading.specs.Script.{Forest, bare, _⊕_, Found}
+use Rattle.reading.specs.Cursor.{Place, Out, got, stop, follow}
+use Rattle.reading.specs.Layout.{datagram}
+use Rattle.reading.specs.Answer.{size, rows, from, nobody}
+use Rattle.reading.proofs.Items.{never}
+use Rattle.reading.proofs.Room.{thrifty-datagram, datagram-on}
+use Rattle.reading.proofs.Runs.{run-from, run-over, run-got, run-ends, run-stops, Run-at, run-lies, run-bare}
+use Rattle.reading.proofs.Counts.{counted, size-joined}
+use Rattle.reading.proofs.Stored.{write, write-length, write-none, write-then, write-rest, rest, rest-is, rows-length, rows-joined}
+use Rattle.reading.proofs.Places.{Accepted, ranges-of, end-of, Given, given, forward}
+use Rattle.xdr.specs.declared.Cursor.{Cursor}
+use Rattle.xdr.specs.declared.Refusal.{Refusal}
+use Rattle.xdr.specs.Shown.{place, refusal}
+use Rattle.flows.specs.declared.frames.Scanned.{Scanned}
+use Rattle.flows.specs.declared.frames.Scanned.the-variants as scanned
+use Rattle.flows.specs.declared.put.Written.{Written}
+use Rattle.flows.specs.Scanned.{Scan, scanned-out}
+use Rattle.flows.specs.Written.{Ready, Put, written, placed}
+use Rattle.flows.proofs.Scan.{Thrift, scan-on}
+use Rattle.flows.proofs.Placing.{a-put, two-placed, at-is, next-is, store-is, put-kept}
+use Rattle.datagram.specs.declared.one.Judged.{Judged}
+use Rattle.datagram.specs.Shown.{Is-judged, root, pen-at}
+
+-- ---- the first pass
+module _ (s : List ℕ) (c : Cursor) (k : ℕ) {j : Judged} (i : Is-judged s c k j) where
+  module _ {d : Cursor} {m : ℕ} (w : j .scanned ≡ scanned.Got d m) where
+    outcome : got m (place d) ≡ counted k (follow datagram s (place c))
+    outcome = rw w at (i .outcome)
+
+    pub judge-on : Scan s c k → Scan s d m
+    judge-on g = scan-on datagram s c k (i .outcome) w g (record { is = thrifty-datagram 8 })
+
+    pub judge-less : (t : ℕ) → Scan s c k → c .at < length s → length s - c .at ≡ t → length s - d .at < t
+    unfolding counted
+    judge-less t g h e = go (follow datagram s (place c)) refl outcome
+      where
+        go : (o : Out Found) → follow datagram s (place c) ≡ o → got m (place d) ≡ counted k o → length s - d .at < t
+        go (got a q) f u =
+            let x : place d ≡ q = cc in
+            let y = ap (λ (r : Place). r .at) x in
+            let z = datagram-on 8 s (place c) (g .inside) f in
+            omega (arith, z .0, y, e, h)
+        go (stop x a n) f u = never (sym u)
+
+    pub judge-turn : {t : Out ℕ} → counted k (run-from s (place c)) ≡ t → c .at < length s → counted m (run-from s (place d)) ≡ t
+    judge-turn e h = sym (run-got s (place c) k h (sym outcome)) ∙ e
+
+  module _ {x : Refusal} (w : j .scanned ≡ scanned.Stop x) {t : Out ℕ} (e : counted k (run-from s (place c)) ≡ t) (h : c .at < length s) where
+    refused : refusal x ≡ counted k (follow datagram s (place c))
+    refused = rw w at (i .outcome)
+
+    pub judge-ends : x .code ≡ 2 → got k (record { at = c .at; steps = x .steps }) ≡ t
+    judge-ends z = sym (run-ends s (place c) k h (sym refused) z) ∙ e
+
+    pub judge-stops : (x .code ≡ 2 → ⊥) → refusal x ≡ t
+    judge-stops z = sym (run-stops s (place c) k h (sym refused) z) ∙ e
+
+pub judge-over : {t : Out ℕ} (s : List ℕ) (c : Cursor) (k : ℕ) → counted k (run-from s (place c)) ≡ t → length s ≤ c .at → got k (place c) ≡ t
+unfolding counted size
+judge-over s c k e h =
+    let z : counted k (run-from s (place c)) ≡ got (k + 0) (place c) = ap (counted k) (run-over s (place c) h) in
+    let y : k ≡ k + 0 = omega arith in
+    ap (λ (n : ℕ). got n (place c)) y ∙ sym z ∙ e
+
+-- ---- the second pass: one datagram, behind n descriptors
+module _ (s l : List ℕ) (at n : ℕ) (g : Ready s l (pen-at n) (follow datagram s (from at))) where
+  pub part-start : 6 * n ≤ length l
+  part-start = omega (arith, g .room)
+
+  pub part-fits : Fits w64 (6 * n)
+  part-fits = record { fits = omega (arith, g .few) }
+
+  pub index-fits : Fits w32 n
+  index-fits = record { fits = omega (arith, g .few) }
+
+  pub part-ready : Ready s (take (length l - 6 * n) (drop (6 * n) l)) (root n) (follow datagram s (from at))
+  part-ready =
+      let m : length (rest l (6 * n)) ≡ length l - 6 * n = ap length (rest-is l (6 * n)) ∙ length-drop (6 * n) l in
+      record { short = g .short; good = g .good; room = omega (arith, g .room, m); few = omega (arith, g .few) }
+
+  module _ {v : Written} {l′ : List ℕ} (e : written v l′ ≡ placed (root n) (follow datagram s (from at)) (take (length l - 6 * n) (drop (6 * n) l))) where
+    more : v .next ≡ 0 + size (ranges-of (follow datagram s (from at)))
+    more = next-is (root n) _ _ e
+
+    pub part-more : Fits w64 (n + v .next)
+    part-more = let y = more in record { fits = omega (arith, g .few) }
+
+    module _ {l″ : List ℕ} (q : l″ ≡ take (6 * n) l ++ (l′ ++ drop (length l - 6 * n) (drop (6 * n) l))) where
+      joined : l″ ≡ write l (6 * n) (rows (0 + n) nobody (ranges-of (follow datagram s (from at))))
+      joined =
+          let x : n + 0 ≡ 0 + n = omega arith in
+          let y : l′ ≡ write (rest l (6 * n)) 0 (rows (0 + n) nobody (ranges-of (follow datagram s (from at)))) =
+          store-is (root n) _ _ e ∙ ap (λ (m : ℕ). write (rest l (6 * n)) 0 (rows m nobody (ranges-of (follow datagram s (from at))))) x in
+          q ∙ ap (λ (x : List ℕ). take (6 * n) l ++ (x ++ drop (length l - 6 * n) (drop (6 * n) l))) y ∙ write-rest l (6 * n) (rows (0 + n) nobody (ranges-of (follow datagram s (from at)))) part-start
+
+      pub part-kept : length l″ ≡ length l
+      part-kept = ap length joined ∙ write-length _ _ _
+
+      pub part-placed : a-put (v .at) (n + v .next) l″ ≡ placed (pen-at n) (follow datagram s (from at)) l
+      unfolding placed
+      part-placed =
+          let a = at-is (root n) _ _ e in
+          let b : n + v .next ≡ n + size (ranges-of (follow datagram s (from at))) = let y = more in omega arith in
+          let c = joined in
+          λ i. record { at = a i; next = b i; store = c i }
+
+-- ---- all of them
+module _ (s l : List ℕ) (cur end n : ℕ) (g : Ready s l (pen-at n) (run-from s (from cur))) (i : cur ≤ length s) (z : end ≡ end-of (run-from s (from cur))) where
+  pub run-all : (w : List ℕ) → end ≤ cur → placed (pen-at n) (run-from s (from cur)) l ≡ placed (pen-at 0) (run-from s (from 0)) w → l ≡ write w 0 (rows 0 nobody (ranges-of (run-from s (from 0))))
+  unfolding placed rows
+  run-all w h e =
+      let y = run-bare s cur i (g .good) (omega (arith, z)) in
+      sym (write-none l (6 * n)) ∙ ap (λ (f : Forest). write l (6 * n) (rows (0 + n) nobody f)) (sym y) ∙ ap (λ (p : Put). p .store) e
+
+  module _ (h : cur < end) where
+    parts : Run-at s cur
+    parts = run-lies s cur i (g .good) (omega (arith, z))
+
+    sizes : size (ranges-of (run-from s (from cur))) ≡ size (ranges-of (follow datagram s (from cur))) + size (ranges-of (run-from s (from (end-of (follow datagram s (from cur))))))
+    sizes = ap size (parts .ranges) ∙ size-joined _ _
+
+    pub first-ready : Ready s l (pen-at n) (follow datagram s (from cur))
+    first-ready =
+        let k = sizes in
+        record { short = g .short; good = parts .first; room = omega (arith, g .room); few = omega (arith, g .few) }
+
+    module _ {v : Written} {l′ : List ℕ} (e : written v l′ ≡ placed (pen-at n) (follow datagram s (from cur)) l) where
+      here : v .at ≡ end-of (follow datagram s (from cur))
+      here = at-is (pen-at n) _ l e
+
+      next : v .next ≡ n + size (ranges-of (follow datagram s (from cur)))
+      next = next-is (pen-at n) _ l e
+
+      pub next-less : (t : ℕ) → end - cur ≡ t → end - v .at < t
+      unfolding end-of
+      next-less t u =
+          let a = given (follow datagram s (from cur)) (parts .first) in
+          let b = datagram-on 8 s (from cur) i (a .is) in
+          let c : v .at ≡ a .last .at = here ∙ ap end-of (a .is) in
+          omega (arith, b .0, c, u, h)
+
+      pub next-inside : v .at ≤ length s
+      next-inside = let f = forward datagram s cur i (parts .first) in let y = here in omega (arith, f .1, y)
+
+      pub next-end : end ≡ end-of (run-from s (from (v .at)))
+      next-end = z ∙ parts .end ∙ ap (λ (m : ℕ). end-of (run-from s (from m))) (sym here)
+
+      pub next-ready : Ready s l′ (pen-at (v .next)) (run-from s (from (v .at)))
+      next-ready =
+          let k = sizes in
+          let y = next in
+          let x = put-kept (pen-at n) _ l e in
+          rw here (record { short = g .short; good = parts .rest; room = omega (arith, g .room); few = omega (arith, g .few) })
+
+      pub next-placed : {t : Put} → placed (pen-at n) (run-from s (from cur)) l ≡ t → placed (pen-at (v .next)) (run-from s (from (v .at))) l′ ≡ t
+      unfolding placed
+      next-placed {t} u = rw here (two-placed 0 nobody n l (ranges-of (follow datagram s (from cur))) (ranges-of (run-from s (from (end-of (follow datagram s (from cur)))))) refl (parts .end) (parts .ranges) next (store-is (pen-at n) _ l e)) ∙ u
+
+pub ruleset running = (
+  judge-on,
+  judge-less,
+  judge-turn,
+  judge-ends,
+  judge-stops,
+  judge-over,
+  part-start,
+  part-fits,
+  index-fits,
+  part-ready,
+  part-more,
+  part-kept,
+  part-placed,
+  run-all,
+  first-ready,
+  next-less,
+  next-inside,
+  next-end,
+  next-ready,
+  next-placed,
+  put-kept,
+  needs,
+)

@@ -1,0 +1,35 @@
+use Prim.Native.Nat.{ℕ, _-_}
+use mathlib.Core.Path.{_≡_}
+use lib.ListN.{length}
+use Rattle.reading.specs.Answer.{from}
+use Rattle.reading.proofs.Counts.{counted}
+use Rattle.reading.proofs.Runs.{run-from}
+use Rattle.xdr.specs.Shown.{place}
+use Rattle.flows.specs.Scanned.{Scan}
+use Rattle.datagram.proofs.Deciding.{at-start}
+use Rattle.datagram.proofs.Running.{running}
+use Rattle.datagram.proofs.run.judge_run.Statement.{statement}
+use Rattle.datagram.proofs.run.judge_run.Tie as tie
+
+abbrev Inv-loop : tie.InvT-loop
+Inv-loop s cur₀ found₀ cur found = Scan s cur found × (counted found (run-from s (place cur)) ≡ counted 0 (run-from s (from 0)))
+
+abbrev μ-loop : tie.MeasureT-loop
+μ-loop s cur₀ found₀ cur found = length s - cur .at
+
+pub judge-run-spec : {M : Type 1} → statement M
+judge-run-spec =
+    tie.close
+    (tie.spec
+    Inv-loop
+    μ-loop
+    (λ c. search (at-start, running))  -- loop-holds run.rt:25:5
+    (λ c κs. search running)  -- judge-requires run.rt:26:13
+    (λ c. search running)  -- enum-known-scanned run.rt:29:27
+    (λ c. search running)  -- returns run.rt:31:21
+    (λ c. search running)  -- returns-2 run.rt:39:17
+    (λ c. search running)  -- enum-known-scanned-2 run.rt:41:26
+    (λ c. search running)  -- loop-less run.rt:25:5
+    (λ c. search running)  -- loop-again run.rt:25:5
+    (λ c. search running)  -- returns-3 run.rt:20:1
+    )

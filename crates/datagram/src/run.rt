@@ -1,0 +1,118 @@
+// A run of datagrams end to end, for any input and any store, as `parse_datagrams` reads them.
+ghost use mathlib.Core.Path.{_≡_};
+ghost use Prim.Native.Nat.{_≤_};
+ghost use lib.ListN.{length};
+ghost use Rattle.reading.specs.Cursor.{follow};
+ghost use Rattle.reading.specs.Layout.{datagram};
+ghost use Rattle.reading.specs.Answer.{from, nobody, rows, run};
+ghost use Rattle.reading.proofs.Counts.{counted};
+ghost use Rattle.reading.proofs.Places.{ranges-of, end-of};
+ghost use Rattle.reading.proofs.Runs.{run-from};
+ghost use Rattle.reading.proofs.Stored.{write};
+ghost use Rattle.flows.specs.Scanned.{scanned-out};
+ghost use Rattle.flows.specs.Written.{Ready, written, placed};
+ghost use Rattle.datagram.specs.Shown.{root, pen-at, ran};
+use crate::decode::Answer;
+use crate::one::judge;
+use crate::one::put_datagram;
+use flows::frames::Scanned;
+use flows::put::Written;
+use xdr::Cursor;
+
+// The first pass. Code 2 ends the run where the datagram that it stops began.
+fn judge_run(s: &[u8]) -> Scanned
+    ensures { λ r. ⌜ scanned-out r ≡ counted 0 (run-from (now (s .entry)) (from 0)) ⌝ }
+{
+    let mut cur = Cursor { at: 0, steps: 0 };
+    let mut found = 0;
+    while cur.at < s.len() {
+        let judged = judge(s, cur, found);
+        let scanned = judged.scanned;
+        match scanned {
+            Scanned::Stop(r) => {
+                if r.code == 2 {
+                    return Scanned::Got(
+                        Cursor {
+                            at: cur.at,
+                            steps: r.steps,
+                        },
+                        found,
+                    );
+                }
+                return Scanned::Stop(r);
+            }
+            Scanned::Got(d, k) => {
+                cur = d;
+                found = k;
+            }
+        }
+    }
+    Scanned::Got(cur, found)
+}
+
+// One datagram of a run, whose first descriptor has the index `next`: the rest of the store is lent to its writer.
+fn put_next(s: &[u8], at: usize, store: &mut [u32], next: usize) -> Written
+    requires { ⌜ at ≤ length (now s) ⌝ }
+    requires { ⌜ Ready (now s) (now store) (pen-at next) (follow datagram (now s) (from at)) ⌝ }
+    ensures { λ r. ⌜ written r (now (store .exit)) ≡ placed (pen-at next) (follow datagram (now (s .entry)) (from at)) (now (store .entry)) ⌝ }
+{
+    let w = put_datagram(s, at, &mut store[6 * next..], next as u32);
+    Written {
+        at: w.at,
+        next: next + w.next,
+    }
+}
+
+// The second pass, up to where the first one ended.
+fn put_run(s: &[u8], end: usize, store: &mut [u32])
+    requires { ⌜ Ready (now s) (now store) (root 0) (run-from (now s) (from 0)) ⌝ }
+    requires { ⌜ end ≡ end-of (run-from (now s) (from 0)) ⌝ }
+    ensures { λ r. ⌜ now (store .exit) ≡ write (now (store .entry)) 0 (rows 0 nobody (ranges-of (run-from (now (s .entry)) (from 0)))) ⌝ }
+{
+    let mut cur = 0;
+    let mut next = 0;
+    while cur < end {
+        let w = put_next(s, cur, &mut *store, next);
+        cur = w.at;
+        next = w.next;
+    }
+}
+
+// The store is written where code 0 is answered, and only then: the descriptors from its first word on.
+pub fn decode_run(s: &[u8], store: &mut [u32]) -> Answer
+    ensures { λ r. ⌜ ran r (now (store .exit)) ≡ run (now (s .entry)) (now (store .entry)) ⌝ }
+{
+    if 16777216 < s.len() {
+        return Answer {
+            code: 1,
+            at: 0,
+            steps: 0,
+            needed: 0,
+        };
+    }
+    match judge_run(s) {
+        Scanned::Stop(r) => Answer {
+            code: r.code,
+            at: r.at,
+            steps: r.steps,
+            needed: 0,
+        },
+        Scanned::Got(e, k) => {
+            if store.len() / 6 < k {
+                return Answer {
+                    code: 9,
+                    at: 0,
+                    steps: e.steps,
+                    needed: k,
+                };
+            }
+            put_run(s, e.at, store);
+            Answer {
+                code: 0,
+                at: e.at,
+                steps: e.steps,
+                needed: k,
+            }
+        }
+    }
+}
