@@ -9,7 +9,7 @@ use lib.Dec.{eqb, leb}
 use lib.ListN.{length}
 use Rattle.reading.specs.Script.{Forest, bare, _⊕_, Found, nothing}
 use Rattle.reading.specs.Cursor.{Place, Out, got, stop, then, follow}
-use Rattle.reading.specs.Layout.{only, datagram}
+use Rattle.reading.specs.Layout.{only, depth-limit, datagram}
 use Rattle.reading.specs.Answer.{size, from, tried, datagrams}
 use Rattle.reading.proofs.Items.{never, Split, split}
 use Rattle.reading.proofs.Steps.{Alike, both-got, both-stop, Steady, alike-then, alike-cond, steady}
@@ -33,7 +33,7 @@ module _ (s : List ℕ) where
       go : ((q : Place) → q .at ≤ length s → length s ≤ n + q .at → length s ≤ m + q .at → datagrams n s q ≡ datagrams m s q)
           → (o : Out Found) → follow datagram s p ≡ o → tried o p (datagrams n s) ≡ tried o p (datagrams m s)
       go again (got d q) e =
-          let f = datagram-on 8 s p i e in
+          let f = datagram-on depth-limit s p i e in
           ap (λ (u : Out Found). then u (λ f e. got (only (d .ranges ⊕ f .ranges)) e)) (again q (f .1) (omega (arith, f .0, h)) (omega (arith, f .0, k)))
       go again (stop c a n) e = refl
 
@@ -130,9 +130,9 @@ module _ (s : List ℕ) where
           → (b : Bool) (o : Out Found) → follow datagram s p ≡ o → cond b (got nothing p) (tried o p (datagrams n s)) ≡ got a q → (4 * size (a .ranges) + p .at ≤ q .at) × (q .at ≤ length s)
       go again true o f e = none p a q h e
       go again false (got d r) f e =
-          let i = thrifty-datagram 8 s p d r h f in
+          let i = thrifty-datagram depth-limit s p d r h f in
           let v = split (datagrams n s r) _ e in
-          let j = again r (v .value) (v .place) (datagram-on 8 s p h f .1) (v .first) in
+          let j = again r (v .value) (v .place) (datagram-on depth-limit s p h f .1) (v .first) in
           let g : got (only (d .ranges ⊕ v .value .ranges)) (v .place) ≡ got a q = v .second in
           let x : only (d .ranges ⊕ v .value .ranges) ≡ a = cc in
           let z = ap (λ (r : Place). r .at) (last-place g) in
@@ -204,7 +204,7 @@ module _ (s : List ℕ) (at : ℕ) (i : at ≤ length s) (g : Accepted (run-from
       tries : (o : Out Found) → follow datagram s (from at) ≡ o → run-from s (from at) ≡ tried o (from at) (run-from s) → ranges-of (run-from s (from at)) ≡ bare
       tries (stop c a n) e r = ap ranges-of (r ∙ ended c a n (subst Accepted r g))
       tries (got d q) e r =
-          let f = datagram-on 8 s (from at) i e in
+          let f = datagram-on depth-limit s (from at) i e in
           let t = given (run-from s (from at)) g in
           let v = split (run-from s q) _ (sym r ∙ t .is) in
           let k = thrifty-datagrams s (length s) q (f .1) (v .first) in
