@@ -16,3 +16,5 @@ pub mod Stands
 pub mod Complete
 pub mod Sound
 pub mod Exactly
+pub mod Faults
+pub mod Codes

@@ -1,0 +1,118 @@
+-- None of document 01's codes is 0: not that of a layout, of a record, of a datagram or of a run. Assumes nothing.
+use Prim.Native.Nat.{ℕ, zero, suc}
+use mathlib.Core.Path.{_≡_, refl}
+use mathlib.Core.Bool.{Bool, true, false}
+use mathlib.Core.List.{List, [], _∷_}
+use native.Mathlib.Omega.{arith}
+use lib.Dec.{eqb, leb}
+use lib.ListN.{length}
+use Rattle.reading.specs.Utf8.{_&_}
+use Rattle.reading.specs.Script.{Value, Found, Script}
+use Rattle.reading.specs.Cursor.{Place, Out, stop, follow}
+use Rattle.reading.specs.Layout.{num, Field, plain, mac, addr, list, segments, address-of, run-of, field, fields, Row, _⟼_, _⟼_each_, opened, framed, flows, flow, counter, samples, datagram-to, depth-limit, datagram}
+use Rattle.reading.specs.Values.{alone}
+use Rattle.reading.specs.Answer.{tried, datagrams, layout-at, layout-of}
+use Rattle.reading.proofs.Faults.{fair-field, fair, Coded, gives, refuses, stands, reads, opens, repeats, Sure, fine, fault, sure-then, either, sure, not-zero, stop-coded}
+
+-- ---- fields
+
+coded-address : {k : Value → Script} → ((v : Value) → Coded (k v)) → (t : ℕ) → Coded (address-of t k)
+unfolding address-of
+coded-address h zero = h _
+coded-address h (suc zero) = reads refl (λ b. h _)
+coded-address h (suc (suc t)) = reads refl (λ b. h _)
+
+coded-run : {body : Script} {k : Value → Script} → Coded body → ((v : Value) → Coded (k v)) → Coded (run-of body k)
+unfolding run-of
+coded-run b h = reads refl (λ n. stands (λ at. repeats b (λ a. h _)))
+
+pub coded-field : {k : Value → Script} (f : Field) → fair-field f ≡ true → ((v : Value) → Coded (k v)) → Coded (field f k)
+unfolding field
+coded-field (plain i) e h = reads e h
+coded-field mac e h = reads refl (λ b. h _)
+coded-field addr e h = reads refl (λ t. coded-address h (num t))
+coded-field list e h = coded-run (reads refl (λ v. gives)) h
+coded-field segments e h = coded-run (reads refl (λ v. coded-run (reads refl (λ w. gives)) (λ w. gives))) h
+
+both : (a b : Bool) → a & b ≡ true → (a ≡ true) × (b ≡ true)
+both true b h = (refl, h)
+both false b h = let z : _≡_ {A = ℕ} 0 1 = cc in absurd (omega arith)
+
+pub coded-fields : {k : List Value → Script} (l : List Field) → fair l ≡ true → ((vs : List Value) → Coded (k vs)) → Coded (fields l k)
+unfolding fields
+coded-fields [] e h = h []
+coded-fields (f ∷ rest) e h = let b = both (fair-field f) (fair rest) e in coded-field f (b .0) (λ v. coded-fields rest (b .1) (λ vs. h (v ∷ vs)))
+
+-- a layout that is read alone
+pub reading-coded : {c a n : ℕ} (l : List Field) → fair l ≡ true → (s : List ℕ) (p : Place) → follow (alone l) s p ≡ stop c a n → c ≡ 0 → ⊥
+reading-coded l e = stop-coded (coded-fields l e (λ vs. gives))
+
+-- ---- tables
+
+-- rows none of whose codes is 0
+data Rows : List Row → Type 0 where
+  none : Rows []
+  flat : {g : ℕ} {l : List Field} {rest : List Row} → fair l ≡ true → Rows rest → Rows ((g ⟼ l) ∷ rest)
+  counts : {g : ℕ} {l : List Field} {body : Script} {rest : List Row} → fair l ≡ true → Coded body → Rows rest → Rows ((g ⟼ l each body) ∷ rest)
+
+coded-opened : {rows : List Row} → Rows rows → (f : ℕ) → Coded (opened rows f)
+unfolding opened
+coded-opened none f = gives
+coded-opened (flat {g} {l} e t) f = either Coded (eqb g f) (coded-fields l e (λ vs. gives)) (coded-opened t f)
+coded-opened (counts {g} {l} e h t) f = either Coded (eqb g f) (coded-fields l e (λ vs. repeats h (λ a. gives))) (coded-opened t f)
+
+fair-at : {rows : List Row} → Rows rows → (f : ℕ) → fair (layout-at rows f) ≡ true
+fair-at none f = refl
+fair-at (flat {g} e t) f = either (λ (l : List Field). fair l ≡ true) (eqb g f) e (fair-at t f)
+fair-at (counts {g} e h t) f = either (λ (l : List Field). fair l ≡ true) (eqb g f) e (fair-at t f)
+
+coded-flows : {inner : Script} → Coded inner → Rows (flows inner)
+unfolding flows
+coded-flows h =
+    flat refl (flat refl (flat refl (flat refl (flat refl (flat refl (flat refl (flat refl (flat refl (flat refl (flat refl (flat refl (flat refl (flat refl (flat refl
+    (flat refl (flat refl (flat refl (flat refl (counts refl h none)))))))))))))))))))
+
+coded-framed : {kind depth : ℕ} {body : ℕ → Script} → ((f : ℕ) → Coded (body f)) → Coded (framed kind depth body)
+coded-framed h = reads refl (λ f. opens (h (num f)) (λ x a. gives))
+
+pub coded-flow : (limit left : ℕ) → Coded (flow limit left)
+unfolding flow
+coded-flow limit zero = refuses {c = 8} (omega arith)
+coded-flow limit (suc left) = coded-framed (coded-opened (coded-flows (reads refl (λ n. stands (λ a. repeats (coded-flow limit left) (λ r. stands (λ e. gives)))))))
+
+coded-samples : (limit : ℕ) → Rows (samples limit)
+unfolding samples
+coded-samples limit =
+    let f : Coded (flow limit limit) = coded-flow limit limit in
+    let c : Coded counter = coded-framed (coded-opened none) in
+    counts refl f (counts refl c (counts refl f (counts refl c (counts refl f none))))
+
+-- the fields of every descriptor
+pub fair-layout : (kind format : ℕ) → fair (layout-of kind format) ≡ true
+unfolding layout-of
+fair-layout zero f = refl
+fair-layout (suc zero) f = fair-at (coded-samples depth-limit) f
+fair-layout (suc (suc zero)) f = fair-at (coded-flows gives) f
+fair-layout (suc (suc (suc k))) f = refl
+
+-- ---- a datagram, and a run of them
+
+pub coded-datagram : Coded datagram
+unfolding datagram-to
+coded-datagram = stands (λ a. coded-fields _ refl (λ vs. repeats (coded-framed (coded-opened (coded-samples depth-limit))) (λ r. stands (λ e. gives))))
+
+pub datagram-coded : {c a n : ℕ} (s : List ℕ) (p : Place) → follow datagram s p ≡ stop c a n → c ≡ 0 → ⊥
+datagram-coded = stop-coded coded-datagram
+
+sure-tried : {o : Out Found} (p : Place) (on : Place → Out Found) → Sure o → ((q : Place) → Sure (on q)) → Sure (tried o p on)
+unfolding tried
+sure-tried p on (fine {p = q}) h = sure-then (h q) (λ f e. fine)
+sure-tried p on (fault {c} z) h = either Sure (eqb c 2) fine (fault z)
+
+sure-run : (fuel : ℕ) (s : List ℕ) (p : Place) → Sure (datagrams fuel s p)
+unfolding datagrams
+sure-run zero s p = fine
+sure-run (suc fuel) s p = either Sure (leb (length s) (p .at)) fine (sure-tried p _ (sure coded-datagram s p) (λ q. sure-run fuel s q))
+
+pub run-coded : {c a n : ℕ} (fuel : ℕ) (s : List ℕ) (p : Place) → datagrams fuel s p ≡ stop c a n → c ≡ 0 → ⊥
+run-coded fuel s p = not-zero (sure-run fuel s p)
