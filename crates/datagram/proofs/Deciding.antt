@@ -20,10 +20,11 @@ use Rattle.reading.proofs.Counts.{counted}
 use Rattle.reading.proofs.Stored.{write, write-length, write-all, rows-length}
 use Rattle.reading.proofs.Places.{Accepted, accepted, ranges-of, end-of}
 use Rattle.xdr.specs.declared.Cursor.{Cursor}
-use Rattle.xdr.specs.declared.Refusal.{Refusal}
+use Rattle.xdr.specs.declared.Outcome.{Outcome}
 use Rattle.xdr.specs.declared.Passed.{Passed}
 use Rattle.xdr.specs.declared.Passed.the-variants as passed
-use Rattle.xdr.specs.Shown.{place, Reads, refusal}
+use Rattle.xdr.specs.Shown.{place, Reads, passed-of, refusal}
+use Rattle.xdr.proofs.Ends.{reads-on}
 use Rattle.xdr.proofs.Rows.{shown-row, shown-halt}
 use Rattle.flows.specs.declared.frames.Scanned.{Scanned}
 use Rattle.flows.specs.declared.frames.Scanned.the-variants as scanned
@@ -81,7 +82,7 @@ module _ (head : List Value → answer.Header) (o : Out Found) (s w : List ℕ) 
     within : answered head o s w ≡ stored head o w
     within = rw (le-leb (length s) 16777216 short)
 
-    stops : (x : Refusal) → refusal x ≡ counted 0 o → refused (x .code) (x .at) (x .steps) 0 w ≡ answered head o s w
+    stops : (x : Outcome) → refusal x ≡ counted 0 o → refused (x .code) (x .at) (x .steps) 0 w ≡ answered head o s w
     unfolding counted stored
     stops x u = go o u ∙ sym within
       where
@@ -152,7 +153,7 @@ module _ (s w : List ℕ) where
   too-long e h = e .leaves w ∙ beyond header-of (follow datagram s (from 0)) s w h
 
   module _ (short : length s ≤ 16777216) {j : Judged} (i : Is-judged s (start-of 0) 0 j) where
-    pub stays : {x : Refusal} {d : Decoded} → j .scanned ≡ scanned.Stop x → Refuses d (x .code) (x .at) (x .steps) 0 → decoded d w ≡ one s w
+    pub stays : {x : Outcome} {d : Decoded} → j .scanned ≡ scanned.Stop x → Refuses d (x .code) (x .at) (x .steps) 0 → decoded d w ≡ one s w
     unfolding one
     stays {x} q e = e .leaves w ∙ stops header-of (follow datagram s (from 0)) s w short x (rw q at (i .outcome))
 
@@ -177,7 +178,7 @@ module _ (s w : List ℕ) where
       unfolding one header-of
       all-stored {v} {l′} h f =
           let t = there in
-          let d : header-of (header-fields (j .header)) ≡ header-of (t .found .values) = ap header-of (sym (head-values s (t .found) e (j .header) (j .header .passed) (i .head) (t .is))) in
+          let d : header-of (header-fields (j .header)) ≡ header-of (t .found .values) = ap header-of (sym (head-values s (t .found) e (j .header) (passed-of (j .header .outcome)) (reads-on (i .head) refl refl) (t .is))) in
           stores header-of (follow datagram s (from 0)) s w short e k t h (store-is (root 0) _ w f) d
 
 pub decoded-room : {l : List ℕ} (s w : List ℕ) (d : Decoded) → decoded d l ≡ one s w → length l ≡ length w → d .answer .code ≡ 0 → 6 * d .answer .needed ≤ length l
@@ -197,7 +198,7 @@ module _ (s w : List ℕ) where
   run-too-long h = beyond (λ _. no-header) (run-from s (from 0)) s w h
 
   module _ (short : length s ≤ 16777216) {m : Scanned} (i : scanned-out m ≡ counted 0 (run-from s (from 0))) where
-    pub run-stays : {x : Refusal} → m ≡ scanned.Stop x → refused (x .code) (x .at) (x .steps) 0 w ≡ run s w
+    pub run-stays : {x : Outcome} → m ≡ scanned.Stop x → refused (x .code) (x .at) (x .steps) 0 w ≡ run s w
     unfolding run run-from
     run-stays {x} q = stops (λ _. no-header) (run-from s (from 0)) s w short x (rw q at i)
 

@@ -19,10 +19,11 @@ use Rattle.reading.proofs.Steps.{Alike, steady-times}
 use Rattle.reading.proofs.Stored.{write, write-length}
 use Rattle.reading.proofs.Places.{Accepted, accepted, ranges-of, end-of, stopped, alike-accepted, alike-ranges, alike-end, forward-times}
 use Rattle.xdr.specs.declared.Cursor.{Cursor}
-use Rattle.xdr.specs.declared.Refusal.{Refusal}
+use Rattle.xdr.specs.declared.Outcome.{Outcome}
 use Rattle.xdr.specs.declared.Passed.{Passed}
 use Rattle.xdr.specs.declared.Passed.the-variants as passed
-use Rattle.xdr.specs.Shown.{place, Inside, Reads}
+use Rattle.xdr.specs.Shown.{place, Inside, Reads, Answers, passed-of}
+use Rattle.xdr.proofs.Ends.{reads-on}
 use Rattle.xdr.proofs.Rows.{shown-row, shown-halt, reads-inside, row-forward}
 use Rattle.flows.specs.declared.frames.Scanned.{Scanned}
 use Rattle.flows.specs.declared.put.Written.{Written}
@@ -30,13 +31,14 @@ use Rattle.flows.specs.Scanned.{Scan, scanned-out}
 use Rattle.flows.specs.Written.{Ready, Put, written, placed}
 use Rattle.flows.proofs.Placing.{a-pen, at-is, next-is, store-is, put-kept, own-first}
 use Rattle.samples.specs.Held.{Counted, on, over, rest-of}
+use Rattle.flows.proofs.Chain.{within-start}
 use Rattle.flows.proofs.Scan.{scan-inside}
 use Rattle.samples.proofs.Sampling.{behind-cut, behind-got, counted-scan}
 use Rattle.datagram.specs.declared.header.Header.{Header}
 use Rattle.datagram.specs.Shown.{header-fields, Is-judged, root}
 
 module _ (s : List ℕ) (c : Cursor) where
-  pub not-begun : (x : Refusal) → fields-out header s (place c) ≡ stop (x .code) (x .at) (x .steps) → follow datagram s (place c) ≡ stop (x .code) (x .at) (x .steps)
+  pub not-begun : (x : Outcome) → fields-out header s (place c) ≡ stop (x .code) (x .at) (x .steps) → follow datagram s (place c) ≡ stop (x .code) (x .at) (x .steps)
   not-begun x e = datagram-is 8 s (place c) ∙ ap (λ (o : Out (List Value)). then o (λ vs q. then (times (last-number vs) (follow (sample 8)) s q) (λ r e. got (whole (c .at) vs r e) e))) e
 
   pub begun : {vs : List Value} (d : Cursor) → fields-out header s (place c) ≡ got vs (place d) → follow datagram s (place c) ≡ then (times (last-number vs) (follow (sample 8)) s (place d)) (λ r e. got (whole (c .at) vs r e) e)
@@ -49,8 +51,8 @@ module _ (s : List ℕ) (c : Cursor) (k : ℕ) where
   pub one-counts : {p : Passed} {d : Cursor} → Counted s p (k + 1) → p ≡ passed.Got d → length s < 2 ^ 64 → Fits w64 (k + 1)
   one-counts g w l = let i = counted-scan g w in record { fits = omega (arith, i .inside, i .few) }
 
-  pub header-counted : {vs : List Value} {p : Passed} → Reads header s c p vs → Scan s c k → Counted s p (k + 1)
-  header-counted {vs} {p} e g = go p e
+  pub header-counted : {vs : List Value} {o : Outcome} {p : Passed} → Answers header s (passed.Got c) o vs → p ≡ passed-of o → Scan s c k → Counted s p (k + 1)
+  header-counted {vs} {p = p} a h g = go p (reads-on a h refl)
     where
       go : (p : Passed) → Reads header s c p vs → Counted s p (k + 1)
       go (passed.Got d) e =
@@ -70,23 +72,27 @@ module _ (s : List ℕ) (c : Cursor) (k : ℕ) where
           ap (λ (n : ℕ). got n i) z
       go (stop x a n) = refl
 
-  pub judged-all : (h : Header) {m : Scanned} → Reads header s c (h .passed) (header-fields h) → scanned-out m ≡ rest-of (sample 8) s (h .passed) (h .«num_samples») (k + 1) → Is-judged s c k (record { scanned = m; header = h })
+  pub judged-all : (h : Header) {p : Passed} {m : Scanned} → Answers header s (passed.Got c) (h .outcome) (header-fields h) → p ≡ passed-of (h .outcome)
+      → scanned-out m ≡ rest-of (sample 8) s p (h .«num_samples») (k + 1) → Is-judged s c k (record { scanned = m; header = h })
   unfolding last-number
-  judged-all h e i = record { outcome = i ∙ judged (h .passed) e; head = e }
+  judged-all h {p} a e i = record { outcome = i ∙ judged p (reads-on a e refl); head = a }
 
 -- ---- the second pass
 abbrev pub start-of : ℕ → Cursor
 start-of at = record { at = at; steps = 0 }
 
-module _ (s l : List ℕ) (at base : ℕ) (g : Ready s l (root base) (follow datagram s (from at))) (f : at ≤ length s) (h : Header)
-    (e : Reads header s (start-of at) (h .passed) (header-fields h)) where
+module _ (s l : List ℕ) (at base : ℕ) (g : Ready s l (root base) (follow datagram s (from at))) (f : at ≤ length s) (h : Header) {p : Passed}
+    (a : Answers header s (passed.Got (start-of at)) (h .outcome) (header-fields h)) (b : p ≡ passed-of (h .outcome)) where
+  e : Reads header s (start-of at) p (header-fields h)
+  e = reads-on a b refl
+
   -- its header was read
-  pub header-there : {x : Refusal} {r : Put} → h .passed ≡ passed.Stop x → r ≡ placed (root base) (follow datagram s (from at)) l
+  pub header-there : {x : Outcome} {r : Put} → p ≡ passed.Stop x → r ≡ placed (root base) (follow datagram s (from at)) l
   header-there {x} w =
       let z = shown-halt s (start-of at) header e w in
       absurd (stopped (subst Accepted (not-begun s (start-of at) x (z .stops)) (g .good)))
 
-  module _ {d : Cursor} (w : h .passed ≡ passed.Got d) where
+  module _ {d : Cursor} (w : p ≡ passed.Got d) where
     inner : Out Found
     inner = times (h .«num_samples») (follow (sample 8)) s (from (d .at))
 
@@ -167,4 +173,4 @@ module _ (s l : List ℕ) (at base : ℕ) (g : Ready s l (root base) (follow dat
             ∙ ap (λ (u : Forest). write l (6 * 0) (rows (base + 0) nobody u)) t in
             λ j. record { at = a j; next = b j; store = z j }
 
-pub ruleset judging = (scan-inside, behind-cut, behind-got, counted-scan, one-counts, header-counted, judged-all, header-there, samples-ready, start32, end-forward, length32, own-room, datagram-kept, datagram-placed, needs)
+pub ruleset judging = (within-start, scan-inside, behind-cut, behind-got, counted-scan, one-counts, header-counted, judged-all, header-there, samples-ready, start32, end-forward, length32, own-room, datagram-kept, datagram-placed, needs)

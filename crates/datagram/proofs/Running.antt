@@ -19,7 +19,7 @@ use Rattle.reading.proofs.Counts.{counted, size-joined}
 use Rattle.reading.proofs.Stored.{write, write-length, write-none, write-then, write-rest, rest, rest-is, rows-length, rows-joined}
 use Rattle.reading.proofs.Places.{Accepted, ranges-of, end-of, Given, given, forward}
 use Rattle.xdr.specs.declared.Cursor.{Cursor}
-use Rattle.xdr.specs.declared.Refusal.{Refusal}
+use Rattle.xdr.specs.declared.Outcome.{Outcome}
 use Rattle.xdr.specs.Shown.{place, refusal}
 use Rattle.flows.specs.declared.frames.Scanned.{Scanned}
 use Rattle.flows.specs.declared.frames.Scanned.the-variants as scanned
@@ -55,7 +55,7 @@ module _ (s : List ℕ) (c : Cursor) (k : ℕ) {j : Judged} (i : Is-judged s c k
     pub judge-turn : {t : Out ℕ} → counted k (run-from s (place c)) ≡ t → c .at < length s → counted m (run-from s (place d)) ≡ t
     judge-turn e h = sym (run-got s (place c) k h (sym outcome)) ∙ e
 
-  module _ {x : Refusal} (w : j .scanned ≡ scanned.Stop x) {t : Out ℕ} (e : counted k (run-from s (place c)) ≡ t) (h : c .at < length s) where
+  module _ {x : Outcome} (w : j .scanned ≡ scanned.Stop x) {t : Out ℕ} (e : counted k (run-from s (place c)) ≡ t) (h : c .at < length s) where
     refused : refusal x ≡ counted k (follow datagram s (place c))
     refused = rw w at (i .outcome)
 

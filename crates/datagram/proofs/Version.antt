@@ -9,7 +9,7 @@ use Rattle.reading.specs.Layout.{version}
 use Rattle.reading.proofs.Items.{tested-cut, tested-got, tested-refused}
 use Rattle.reading.proofs.Fields.{field-out, sole-gives, sole-halts}
 use Rattle.xdr.specs.declared.Cursor.{Cursor}
-use Rattle.xdr.specs.declared.Refusal.{Refusal}
+use Rattle.xdr.specs.declared.Outcome.{Outcome}
 use Rattle.xdr.specs.declared.Passed.the-variants as passed
 use Rattle.xdr.specs.declared.Word.{Word}
 use Rattle.xdr.specs.declared.Word.the-variants as a-word
@@ -18,7 +18,7 @@ use Rattle.xdr.proofs.Rows.{word-inside}
 use Rattle.flows.specs.Chain.{Then, goes, halts}
 
 module _ (s : List ℕ) (c : Cursor) {w : Word} (f : word-out w ≡ read-item word s (place c)) where
-  pub no-version : {x : Refusal} {vs : List Value} → w ≡ a-word.Stop x → Then (version ∷ []) s (passed.Got c) (passed.Stop x) vs
+  pub no-version : {x : Outcome} {vs : List Value} → w ≡ a-word.Stop x → Then (version ∷ []) s (passed.Got c) (passed.Stop x) vs
   unfolding field-out
   no-version h = halts (sole-halts version s (place c) (sym (tested-cut s (place c) _ 3 (rw h at f))))
 
@@ -27,6 +27,6 @@ module _ (s : List ℕ) (c : Cursor) {w : Word} (f : word-out w ≡ read-item wo
     unfolding field-out
     version-five i e = goes (sole-gives version s (place c) (sym (tested-got s (place c) _ 3 (rw h at f) (eq-eqb v 5 e)))) (word-inside s c f h i)
 
-    pub version-other : {x : Refusal} {vs : List Value} → (v ≡ 5 → ⊥) → x ≡ refused 3 c → Then (version ∷ []) s (passed.Got c) (passed.Stop x) vs
+    pub version-other : {x : Outcome} {vs : List Value} → (v ≡ 5 → ⊥) → x ≡ refused 3 c → Then (version ∷ []) s (passed.Got c) (passed.Stop x) vs
     unfolding field-out
     version-other e r = rw r (halts (sole-halts version s (place c) (sym (tested-refused s (place c) _ 3 (rw h at f) (ne-eqb v 5 e)))))

@@ -9,7 +9,8 @@ use Rattle.reading.specs.Answer as answer
 use Rattle.reading.specs.Answer.{nobody, no-header, refused}
 use Rattle.reading.proofs.Counts.{counted}
 use Rattle.xdr.specs.declared.Cursor.{Cursor}
-use Rattle.xdr.specs.Shown.{place, Reads, an-address}
+use Rattle.xdr.specs.declared.Passed.the-variants as passed
+use Rattle.xdr.specs.Shown.{place, Answers, an-address}
 use Rattle.flows.specs.declared.put.Pen.{Pen}
 use Rattle.flows.specs.Scanned.{scanned-out}
 use Rattle.datagram.specs.declared.decode.Answer.{Answer}
@@ -25,7 +26,7 @@ header-fields r =
 -- a datagram that was judged: its outcome with the descriptors counted on top of k, and its header
 pub record Is-judged (s : List ℕ) (c : Cursor) (k : ℕ) (r : Judged) : Type 0 where
   pub outcome : scanned-out (r .scanned) ≡ counted k (follow datagram s (place c))
-  pub head : Reads header s c (r .header .passed) (header-fields (r .header))
+  pub head : Answers header s (passed.Got c) (r .header .outcome) (header-fields (r .header))
 
 -- where a datagram's own descriptor goes: it has no parent
 abbrev pub root : ℕ → Pen

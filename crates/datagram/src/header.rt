@@ -5,20 +5,21 @@ ghost use Rattle.reading.specs.Script.{number};
 ghost use Rattle.reading.specs.Layout.{version, addr, words};
 ghost use Rattle.reading.specs.Values.{zeros};
 ghost use Rattle.reading.specs.Answer.{layout-of};
-ghost use Rattle.xdr.specs.Shown.{Inside, Reads, refused};
-ghost use Rattle.flows.specs.Chain.{Then};
+ghost use Rattle.xdr.specs.Shown.{Inside, Answers, refused};
+ghost use Rattle.flows.specs.Chain.{Within, Then};
 ghost use Rattle.datagram.specs.Shown.{header-fields};
 use flows::next;
 use flows::next::Number;
 use xdr::Address;
 use xdr::Cursor;
+use xdr::Outcome;
 use xdr::Passed;
-use xdr::Refusal;
 use xdr::Word;
 
 // The header's fields; all zero on a refusal.
+#[repr(C)]
 pub struct Header {
-    pub passed: Passed,
+    pub outcome: Outcome,
     pub version: u32,
     pub agent_address: Address,
     pub sub_agent_id: u32,
@@ -28,7 +29,20 @@ pub struct Header {
 }
 
 // The version, which is 5.
-fn version(c: Cursor, s: &[u8]) -> Number
+fn version(p: Passed, s: &[u8]) -> Number
+    requires { ⌜ Within (now s) p ⌝ }
+    ensures { λ r. ⌜ Then (version ∷ []) (now (s .entry)) p (r .passed) (number (r .value) ∷ []) ⌝ }
+{
+    match p {
+        Passed::Stop(r) => Number {
+            passed: Passed::Stop(r),
+            value: 0,
+        },
+        Passed::Got(c) => version_at(c, s),
+    }
+}
+
+fn version_at(c: Cursor, s: &[u8]) -> Number
     requires { ⌜ Inside (now s) c ⌝ }
     ensures { λ r. ⌜ Then (version ∷ []) (now (s .entry)) (Passed.Got c) (r .passed) (number (r .value) ∷ []) ⌝ }
 {
@@ -53,11 +67,11 @@ fn version(c: Cursor, s: &[u8]) -> Number
 }
 
 impl Header {
-    fn none(r: Refusal) -> Header
-        ensures { λ a. ⌜ (a .passed ≡ Passed.Stop r) × (header-fields a ≡ zeros (version ∷ addr ∷ words 4)) ⌝ }
+    fn none(r: Outcome) -> Header
+        ensures { λ a. ⌜ (a .outcome ≡ r) × (header-fields a ≡ zeros (version ∷ addr ∷ words 4)) ⌝ }
     {
         Header {
-            passed: Passed::Stop(r),
+            outcome: r,
             version: 0,
             agent_address: Address {
                 kind: 0,
@@ -70,13 +84,12 @@ impl Header {
         }
     }
 
-    pub fn parse(c: Cursor, s: &[u8]) -> Header
-        requires { ⌜ Inside (now s) c ⌝ }
-        ensures { λ r. ⌜ Reads (layout-of 0 0) (now (s .entry)) c (r .passed) (header-fields r) ⌝ }
+    pub fn parse(p: Passed, s: &[u8]) -> Header
+        requires { ⌜ Within (now s) p ⌝ }
+        ensures { λ r. ⌜ Answers (layout-of 0 0) (now (s .entry)) p (r .outcome) (header-fields r) ⌝ }
     {
-        let first = version(c, s);
+        let first = version(p, s);
         let passed = first.passed;
-        let version = first.value;
         let agent = next::address(passed, s);
         let passed = agent.passed;
         let agent_address = agent.address;
@@ -86,8 +99,8 @@ impl Header {
         match passed {
             Passed::Stop(r) => Header::none(r),
             Passed::Got(d) => Header {
-                passed: Passed::Got(d),
-                version: version,
+                outcome: d.accepted(),
+                version: first.value,
                 agent_address: agent_address,
                 sub_agent_id: words[0],
                 sequence_number: words[1],

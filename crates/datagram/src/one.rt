@@ -43,11 +43,10 @@ pub fn judge(s: &[u8], c: Cursor, count: usize) -> Judged
     requires { ⌜ Scan (now s) c count ⌝ }
     ensures { λ r. ⌜ Is-judged (now (s .entry)) c count r ⌝ }
 {
-    let header = Header::parse(c, s);
-    let passed = header.passed;
-    let n = header.num_samples;
+    let header = Header::parse(Passed::Got(c), s);
+    let outcome = header.outcome;
     Judged {
-        scanned: samples_behind(s, passed, n, count),
+        scanned: samples_behind(s, outcome.passed(), header.num_samples, count),
         header: header,
     }
 }
@@ -58,10 +57,10 @@ pub fn put_datagram(s: &[u8], at: usize, store: &mut [u32], base: u32) -> Writte
     requires { ⌜ Ready (now s) (now store) (root base) (follow datagram (now s) (from at)) ⌝ }
     ensures { λ r. ⌜ written r (now (store .exit)) ≡ placed (root base) (follow datagram (now (s .entry)) (from at)) (now (store .entry)) ⌝ }
 {
-    let header = Header::parse(Cursor { at: at, steps: 0 }, s);
-    let passed = header.passed;
+    let header = Header::parse(Passed::Got(Cursor { at: at, steps: 0 }), s);
+    let outcome = header.outcome;
     let n = header.num_samples;
-    match passed {
+    match outcome.passed() {
         Passed::Stop(_) => Written { at: 0, next: 0 },
         Passed::Got(d) => {
             let w = put_samples(

@@ -13,11 +13,12 @@ use Rattle.reading.specs.Bytes.{be4}
 use Rattle.reading.specs.Script.{Width, six, eight, sixteen, Value, number, octets, part, nothing, Item, word, long, opaque, string}
 use Rattle.reading.specs.Cursor.{got, read-item, times, follow}
 use Rattle.reading.specs.Layout.{Field, plain, mac, any-word, words, bytes}
-use Rattle.reading.specs.Values.{zeros}
+use Rattle.reading.specs.Values.{zeros, valued}
+use Rattle.reading.specs.Answer.{answered}
 use Rattle.reading.proofs.Fields.{field-out, reads-shown, halts-shown, shown-reads, shown-halts, sole-gives, sole-halts, sole-gave, sole-halted, row-halts, rows-halt, rows-give}
 use Rattle.reading.proofs.Words.{numbers-from, numbers, run-row, run-cut}
 use Rattle.xdr.specs.declared.Cursor.{Cursor}
-use Rattle.xdr.specs.declared.Refusal.{Refusal}
+use Rattle.xdr.specs.declared.Outcome.{Outcome}
 use Rattle.xdr.specs.declared.Passed.{Passed}
 use Rattle.xdr.specs.declared.Passed.the-variants as passed
 use Rattle.xdr.specs.declared.Word.{Word}
@@ -28,7 +29,7 @@ use Rattle.xdr.specs.declared.Span.{Span}
 use Rattle.xdr.specs.declared.Part.{Part}
 use Rattle.xdr.specs.declared.Part.the-variants as a-part
 use Rattle.xdr.specs.declared.Block.{Block}
-use Rattle.xdr.specs.Shown.{place, Inside, Reads, Is-block, span, refusal, word-out, long-out, part-out, passed-out}
+use Rattle.xdr.specs.Shown.{place, Inside, Reads, Answers, accepted, Is-block, span, refusal, word-out, long-out, part-out, passed-out}
 use Rattle.xdr.proofs.Inside.{after-item}
 use Rattle.xdr.proofs.Rows.{reads-inside, words-inside}
 use Rattle.flows.specs.declared.lists.Ranged.{Ranged}
@@ -77,25 +78,31 @@ module _ {s : List ℕ} where
   pub then-is : {l : List Field} {p q : Passed} {vs us : List Value} → Then l s p q vs → us ≡ vs → Then l s p q us
   then-is t e = rw e t
 
-  -- the whole layout, from the cursor on
-  module _ {l : List Field} {c : Cursor} {q : Passed} where
-    pub all-read : {vs : List Value} {d : Cursor} → q ≡ passed.Got d → Then l s (passed.Got c) q vs → Reads l s c (passed.Got d) vs
-    all-read {vs} {d} e t = go (rw e at t)
+  -- the whole layout, read on from p
+  module _ {l : List Field} {p q : Passed} where
+    pub all-read : {vs : List Value} {d : Cursor} {o : Outcome} → q ≡ passed.Got d → o ≡ accepted d → Then l s p q vs → Answers l s p o vs
+    unfolding answered
+    all-read {vs} {d} e h t = rw h (go (rw e at t))
       where
-        go : Then l s (passed.Got c) (passed.Got d) vs → Reads l s c (passed.Got d) vs
-        go (goes a i) = record { is = reads-shown l s (place c) a }
+        go : {p : Passed} → Then l s p (passed.Got d) vs → Answers l s p (accepted d) vs
+        go (goes {d = c} a i) = record { is = ap answered (reads-shown l s (place c) a) }
 
-    pub all-refused : {z : Passed} {us : List Value} {x : Refusal} → z ≡ passed.Stop x → us ≡ zeros l → q ≡ passed.Stop x → Ends l s (passed.Got c) q → Reads l s c z us
-    all-refused {us = us} {x} i f e (ends {vs} t) = rw (i, f) (go (rw e at t))
+    pub all-refused : {us : List Value} {x o : Outcome} → q ≡ passed.Stop x → Ends l s p q → o ≡ x → us ≡ zeros l → Answers l s p o us
+    unfolding answered valued
+    all-refused {us} {x} e (ends {vs} t) h f = rw (h, f) (go (rw e at t))
       where
-        go : Then l s (passed.Got c) (passed.Stop x) vs → Reads l s c (passed.Stop x) (zeros l)
-        go (halts a) = record { is = halts-shown l s (place c) a }
+        go : {p : Passed} → Then l s p (passed.Stop x) vs → Answers l s p x (zeros l)
+        go (halts {d = c} a) = record { is = ap answered (halts-shown l s (place c) a) }
+        go stays = record { is = refl }
 
 -- ---- the items
 
 module _ {l : List Field} {s : List ℕ} {p : Passed} where
-  pub handed-on : {x : Refusal} {vs : List Value} → p ≡ passed.Stop x → Then l s p (passed.Stop x) vs
+  pub handed-on : {x : Outcome} {vs : List Value} → p ≡ passed.Stop x → Then l s p (passed.Stop x) vs
   handed-on e = rw e stays
+
+  pub from-there : {c : Cursor} {q : Passed} {vs : List Value} → p ≡ passed.Got c → Then l s (passed.Got c) q vs → Then l s p q vs
+  from-there e t = rw e t
 
   -- what another reader answers
   pub then-reads : {c : Cursor} {q : Passed} {vs : List Value} → p ≡ passed.Got c → Inside s c → Reads l s c q vs → Then l s p q vs
@@ -111,7 +118,7 @@ module _ (i : Item) (s : List ℕ) (c : Cursor) where
   unfolding field-out
   item-goes j e = goes (sole-gives (plain i) s (place c) (sym e)) (after-item s c j i e)
 
-  item-halts : {x : Refusal} {vs : List Value} → refusal x ≡ read-item i s (place c) → Then (plain i ∷ []) s (passed.Got c) (passed.Stop x) vs
+  item-halts : {x : Outcome} {vs : List Value} → refusal x ≡ read-item i s (place c) → Then (plain i ∷ []) s (passed.Got c) (passed.Stop x) vs
   unfolding field-out
   item-halts e = halts (sole-halts (plain i) s (place c) (sym e))
 
@@ -119,14 +126,14 @@ module _ (s : List ℕ) {p : Passed} (c : Cursor) (h : p ≡ passed.Got c) {w : 
   pub then-word : {v : ℕ} {d : Cursor} → Inside s c → w ≡ a-word.Got v d → Then (words 1) s p (passed.Got d) (number v ∷ [])
   then-word i e = rw h (item-goes word s c i (rw e at f))
 
-  pub no-word : {x : Refusal} {vs : List Value} → w ≡ a-word.Stop x → Then (words 1) s p (passed.Stop x) vs
+  pub no-word : {x : Outcome} {vs : List Value} → w ≡ a-word.Stop x → Then (words 1) s p (passed.Stop x) vs
   no-word e = rw h (item-halts word s c (rw e at f))
 
 module _ (s : List ℕ) {p : Passed} (c : Cursor) (h : p ≡ passed.Got c) {w : Long} (f : long-out w ≡ read-item long s (place c)) where
   pub then-long : {v : ℕ} {d : Cursor} → Inside s c → w ≡ a-long.Got v d → Then (plain long ∷ []) s p (passed.Got d) (number v ∷ [])
   then-long i e = rw h (item-goes long s c i (rw e at f))
 
-  pub no-long : {x : Refusal} {vs : List Value} → w ≡ a-long.Stop x → Then (plain long ∷ []) s p (passed.Stop x) vs
+  pub no-long : {x : Outcome} {vs : List Value} → w ≡ a-long.Stop x → Then (plain long ∷ []) s p (passed.Stop x) vs
   no-long e = rw h (item-halts long s c (rw e at f))
 
 -- n words, and those that are loaded of them
@@ -137,7 +144,7 @@ module _ (n : ℕ) (s : List ℕ) {p : Passed} (c : Cursor) (h : p ≡ passed.Go
   pub then-words : {d : Cursor} {vs : List Value} → q ≡ passed.Got d → vs ≡ numbers n s (c .at) → Then (words n) s p (passed.Got d) vs
   then-words e z = rw (h, z) (goes (run-row s n (place c) (i .inside) (rw e at f) .1) (words-inside n s c f i e))
 
-  pub no-words : {x : Refusal} {vs : List Value} → q ≡ passed.Stop x → Then (words n) s p (passed.Stop x) vs
+  pub no-words : {x : Outcome} {vs : List Value} → q ≡ passed.Stop x → Then (words n) s p (passed.Stop x) vs
   no-words e = rw h (halts (run-cut s n (place c) (i .inside) (rw e at f)))
 
 same-numbers : {v w : ℕ} {vs ws : List Value} → v ≡ w → vs ≡ ws → number v ∷ vs ≡ number w ∷ ws
@@ -214,7 +221,7 @@ module _ (s : List ℕ) {p : Passed} (c : Cursor) (h : p ≡ passed.Got c) (i : 
 pub range-got : {o : Part} {x : Span} {d : Cursor} → o ≡ a-part.Got x d → record { passed = passed.Got d; span = x } ≡ range-of o
 range-got e = rw e
 
-pub range-stop : {o : Part} {x : Refusal} → o ≡ a-part.Stop x → no-range x ≡ range-of o
+pub range-stop : {o : Part} {x : Outcome} → o ≡ a-part.Stop x → no-range x ≡ range-of o
 range-stop e = rw e
 
 pub range-arm : {k j : Kind} {s : List ℕ} {c : Cursor} {q : Passed} {vs : List Value} → k ≡ j → Reads (field-of j ∷ []) s c q vs → Reads (field-of k ∷ []) s c q vs
@@ -232,7 +239,7 @@ module _ (s : List ℕ) (c : Cursor) where
       item-read : {v : Value} {d : Cursor} (i : Item) → got v (place d) ≡ read-item i s (place c) → Reads (plain i ∷ []) s c (passed.Got d) (v ∷ [])
       item-read i e = record { is = reads-shown (plain i ∷ []) s (place c) (sole-gives (plain i) s (place c) (sym e)) }
 
-      item-cut : {x : Refusal} (i : Item) → refusal x ≡ read-item i s (place c) → Reads (plain i ∷ []) s c (passed.Stop x) (zeros (plain i ∷ []))
+      item-cut : {x : Outcome} (i : Item) → refusal x ≡ read-item i s (place c) → Reads (plain i ∷ []) s c (passed.Stop x) (zeros (plain i ∷ []))
       item-cut i e = record { is = halts-shown (plain i ∷ []) s (place c) (sole-halts (plain i) s (place c) (sym e)) }
 
       go : {j : Kind} {i : Item} (o : Part) → part-out o ≡ read-item i s (place c) → Part-of j i → Reads (field-of j ∷ []) s c (range-of o .passed) (part (span (range-of o .span)) ∷ [])
@@ -247,4 +254,4 @@ pub ruleset steps = (within-start, within-then, needs)
 pub ruleset rows = (all-read, all-refused, then-on, then-is, ends, ends-on)
 
 -- for the items themselves
-pub ruleset items = (within-got, handed-on, then-reads, then-word, no-word, then-long, no-long, then-sixteen, then-six, range-got, range-stop, is-opaque, is-text, range-part, range-arm, run-there, then-words, no-words, load-none, load-more, load-all, needs)
+pub ruleset items = (within-got, handed-on, from-there, then-reads, then-word, no-word, then-long, no-long, then-sixteen, then-six, range-got, range-stop, is-opaque, is-text, range-part, range-arm, run-there, then-words, no-words, load-none, load-more, load-all, needs)

@@ -10,7 +10,7 @@ use Rattle.reading.specs.Cursor.{Place, Out, got, stop, Reader, then, read-item
 use Rattle.reading.specs.Layout.{Field, list, segments, any-word, segment, run-of, field, fields}
 use Rattle.reading.proofs.Fields.{run-out, field-out, fields-out, fields-then, reads-shown, halts-shown, shown-reads, shown-halts, sole-gives, sole-halts}
 use Rattle.xdr.specs.declared.Cursor.{Cursor}
-use Rattle.xdr.specs.declared.Refusal.{Refusal}
+use Rattle.xdr.specs.declared.Outcome.{Outcome}
 use Rattle.xdr.specs.declared.Passed.{Passed}
 use Rattle.xdr.specs.declared.Passed.the-variants as passed
 use Rattle.xdr.specs.declared.Word.{Word}
@@ -26,7 +26,7 @@ use Rattle.flows.specs.Chain.{no-range, counted}
 pub counted-got : {p : Passed} {d : Cursor} (a n : ℕ) → p ≡ passed.Got d → record { passed = passed.Got d; span = record { start = a; count = n } } ≡ counted a n p
 counted-got a n e = rw e
 
-pub counted-stop : {p : Passed} {x : Refusal} (a n : ℕ) → p ≡ passed.Stop x → no-range x ≡ counted a n p
+pub counted-stop : {p : Passed} {x : Outcome} (a n : ℕ) → p ≡ passed.Stop x → no-range x ≡ counted a n p
 counted-stop a n e = rw e
 
 -- what a field counts
@@ -43,7 +43,7 @@ module _ (s : List ℕ) (c : Cursor) {f : Field} {body : Script} (b : Counts f b
       go is-list h = sole-gives list s (place c) h
       go is-segments h = sole-gives segments s (place c) h
 
-  none : {x : Refusal} {r : Ranged} → run-out body s (place c) ≡ refusal x → r ≡ no-range x → Reads (f ∷ []) s c (r .passed) (part (span (r .span)) ∷ [])
+  none : {x : Outcome} {r : Ranged} → run-out body s (place c) ≡ refusal x → r ≡ no-range x → Reads (f ∷ []) s c (r .passed) (part (span (r .span)) ∷ [])
   unfolding field-out
   none {x} h q = rw q (go b h)
     where
@@ -51,7 +51,7 @@ module _ (s : List ℕ) (c : Cursor) {f : Field} {body : Script} (b : Counts f b
       go is-list h = record { is = halts-shown (list ∷ []) s (place c) (sole-halts list s (place c) h) }
       go is-segments h = record { is = halts-shown (segments ∷ []) s (place c) (sole-halts segments s (place c) h) }
 
-  pub run-cut : {w : Word} {x : Refusal} {r : Ranged} → w ≡ a-word.Stop x → word-out w ≡ read-item word s (place c) → r ≡ no-range x → Reads (f ∷ []) s c (r .passed) (part (span (r .span)) ∷ [])
+  pub run-cut : {w : Word} {x : Outcome} {r : Ranged} → w ≡ a-word.Stop x → word-out w ≡ read-item word s (place c) → r ≡ no-range x → Reads (f ∷ []) s c (r .passed) (part (span (r .span)) ∷ [])
   unfolding run-out
   run-cut h e q = none (rw (← (rw h at e))) q
 
@@ -67,7 +67,7 @@ module _ (s : List ℕ) (c : Cursor) {f : Field} {body : Script} (b : Counts f b
 -- ---- one segment
 
 module _ (s : List ℕ) (c : Cursor) {w : Word} (e : word-out w ≡ read-item word s (place c)) where
-  pub segment-cut : {x : Refusal} → w ≡ a-word.Stop x → refusal x ≡ follow segment s (place c)
+  pub segment-cut : {x : Outcome} → w ≡ a-word.Stop x → refusal x ≡ follow segment s (place c)
   unfolding follow
   segment-cut h = rw (← (rw h at e))
 
@@ -91,7 +91,7 @@ module _ (f : Reader Found) (s : List ℕ) where
   more zero p q l e = absurd (omega arith)
   more (suc n) p q l e = rw (← e, sub-one) (sym (whole (times n f s q)))
 
-  refuses : {x : Refusal} (n : ℕ) (p : Place) → 0 < n → refusal x ≡ f s p → refusal x ≡ times n f s p
+  refuses : {x : Outcome} (n : ℕ) (p : Place) → 0 < n → refusal x ≡ f s p → refusal x ≡ times n f s p
   unfolding times
   refuses zero p l e = absurd (omega arith)
   refuses (suc n) p l e = rw (← e)
@@ -105,7 +105,7 @@ module _ (body : Script) (s : List ℕ) (c : Cursor) (n : ℕ) {o : Out Found} (
   pub turn : {p : Passed} {d : Cursor} → passed-out p nothing ≡ follow body s (place c) → p ≡ passed.Got d → 0 < n → times (n - 1) (follow body) s (place d) ≡ o
   turn {d = d} e h l = more (follow body) s n (place c) (place d) l (rw h at e) ∙ t
 
-  pub turn-stop : {p : Passed} {x : Refusal} → passed-out p nothing ≡ follow body s (place c) → p ≡ passed.Stop x → 0 < n → refusal x ≡ o
+  pub turn-stop : {p : Passed} {x : Outcome} → passed-out p nothing ≡ follow body s (place c) → p ≡ passed.Stop x → 0 < n → refusal x ≡ o
   turn-stop e h l = refuses (follow body) s n (place c) l (rw h at e) ∙ t
 
   pub turns-over : n ≤ 0 → got nothing (place c) ≡ o

@@ -14,7 +14,7 @@ use Rattle.reading.specs.Layout.{protocol}
 use Rattle.reading.proofs.Items.{tested-cut, tested-got, tested-refused}
 use Rattle.reading.proofs.Fields.{field-out, sole-gives, sole-halts}
 use Rattle.xdr.specs.declared.Cursor.{Cursor}
-use Rattle.xdr.specs.declared.Refusal.{Refusal}
+use Rattle.xdr.specs.declared.Outcome.{Outcome}
 use Rattle.xdr.specs.declared.Passed.{Passed}
 use Rattle.xdr.specs.declared.Passed.the-variants as passed
 use Rattle.xdr.specs.declared.Word.{Word}
@@ -47,7 +47,7 @@ unfolding header-protocols from
 protocols v = refl
 
 module _ (s : List ℕ) (c : Cursor) {w : Word} (f : word-out w ≡ read-item word s (place c)) where
-  pub no-protocol : {x : Refusal} {vs : List Value} → w ≡ a-word.Stop x → Then (protocol ∷ []) s (passed.Got c) (passed.Stop x) vs
+  pub no-protocol : {x : Outcome} {vs : List Value} → w ≡ a-word.Stop x → Then (protocol ∷ []) s (passed.Got c) (passed.Stop x) vs
   unfolding field-out
   no-protocol h = halts (sole-halts protocol s (place c) (sym (tested-cut s (place c) _ 6 (rw h at f))))
 

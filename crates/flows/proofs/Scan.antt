@@ -18,7 +18,7 @@ use Rattle.reading.proofs.Counts.{counted, counted-stop, counted-none, turn-got
 use Rattle.reading.proofs.Bounds.{Owes, owes}
 use Rattle.reading.proofs.Room.{Thrifty, thrifty-flow, thrifty-pdu}
 use Rattle.xdr.specs.declared.Cursor.{Cursor}
-use Rattle.xdr.specs.declared.Refusal.{Refusal}
+use Rattle.xdr.specs.declared.Outcome.{Outcome}
 use Rattle.xdr.specs.declared.Span.{Span}
 use Rattle.xdr.specs.declared.Passed.{Passed}
 use Rattle.xdr.specs.declared.Passed.the-variants as passed
@@ -26,7 +26,8 @@ use Rattle.xdr.specs.declared.Part.{Part}
 use Rattle.xdr.specs.declared.Part.the-variants as a-part
 use Rattle.xdr.specs.declared.Word.{Word}
 use Rattle.xdr.specs.declared.Word.the-variants as a-word
-use Rattle.xdr.specs.Shown.{place, Inside, Reads, refused, refusal, span, word-out, part-out, passed-out}
+use Rattle.xdr.specs.Shown.{place, Inside, Reads, Answers, passed-of, refused, refusal, span, word-out, part-out, passed-out}
+use Rattle.xdr.proofs.Ends.{reads-on}
 use Rattle.xdr.proofs.Rows.{shown-row, shown-halt, reads-inside, row-forward}
 use Rattle.flows.specs.declared.frames.Frame.{Frame}
 use Rattle.flows.specs.declared.frames.Frame.the-variants as frame
@@ -77,7 +78,7 @@ module _ (sc : Script) (s : List ℕ) (c : Cursor) (k n : ℕ) {t : Out ℕ} whe
         go zero h z = absurd (omega arith)
         go (suc n) h z = rw sub-one (sym (turn-got (follow sc) s (place c) k n (rw w at e)) ∙ h)
 
-    pub scan-stop : {x : Refusal} → m ≡ scanned.Stop x → counted k (times n (follow sc) s (place c)) ≡ t → 0 < n → refusal x ≡ t
+    pub scan-stop : {x : Outcome} → m ≡ scanned.Stop x → counted k (times n (follow sc) s (place c)) ≡ t → 0 < n → refusal x ≡ t
     scan-stop {x} w h z = go n h z
       where
         go : (n : ℕ) → counted k (times n (follow sc) s (place c)) ≡ t → 0 < n → refusal x ≡ t
@@ -86,7 +87,7 @@ module _ (sc : Script) (s : List ℕ) (c : Cursor) (k n : ℕ) {t : Out ℕ} whe
 
 -- ---- a PDU, by its record count
 module _ (depth left : ℕ) (s : List ℕ) (c : Cursor) (k : ℕ) {w : Word} (e : word-out w ≡ read-item word s (place c)) where
-  pub pdu-short : {x : Refusal} → w ≡ a-word.Stop x → refusal x ≡ counted k (follow (pdu depth (flow 8 left)) s (place c))
+  pub pdu-short : {x : Outcome} → w ≡ a-word.Stop x → refusal x ≡ counted k (follow (pdu depth (flow 8 left)) s (place c))
   pdu-short h = pdu-cut depth (flow 8 left) s (place c) k (rw h at e)
 
   pub pdu-full : {n : ℕ} {d : Cursor} {o : Out ℕ} → w ≡ a-word.Got n d → o ≡ counted (k + 1) (times n (follow (flow 8 left)) s (place d)) → o ≡ counted k (follow (pdu depth (flow 8 left)) s (place c))
@@ -104,11 +105,11 @@ module _ (s : List ℕ) (c : Cursor) (k : ℕ) (g : Scan s c k) {w : Word} (e : 
 
 -- ---- a frame, by its format word and its opaque
 module _ (s : List ℕ) (c : Cursor) {w : Word} (e : word-out w ≡ read-item word s (place c)) where
-  pub frame-cut : {x : Refusal} → w ≡ a-word.Stop x → refusal x ≡ frame-at s (place c)
+  pub frame-cut : {x : Outcome} → w ≡ a-word.Stop x → refusal x ≡ frame-at s (place c)
   frame-cut h = framing-cut s (place c) (rw h at e)
 
   module _ {f : ℕ} {d : Cursor} (h : w ≡ a-word.Got f d) {r : Part} (i : part-out r ≡ read-item opaque s (place d)) where
-    pub frame-short : {x : Refusal} → r ≡ a-part.Stop x → refusal x ≡ frame-at s (place c)
+    pub frame-short : {x : Outcome} → r ≡ a-part.Stop x → refusal x ≡ frame-at s (place c)
     frame-short g = framing-short s (place c) (rw h at e) (rw g at i)
 
     pub frame-got : {x : Span} {u : Cursor} → r ≡ a-part.Got x u → got (framing f (span x)) (place u) ≡ frame-at s (place c)
@@ -138,12 +139,12 @@ abbrev holds : ℕ → ℕ → Script
 holds left f = opened (flows (pdu (8 - left) (flow 8 left))) f
 
 module _ (left : ℕ) (s : List ℕ) (c : Cursor) (k : ℕ) where
-  pub record-deep : {x : Refusal} → left ≡ 0 → x ≡ refused 8 c → refusal x ≡ counted k (follow (flow 8 left) s (place c))
+  pub record-deep : {x : Outcome} → left ≡ 0 → x ≡ refused 8 c → refusal x ≡ counted k (follow (flow 8 left) s (place c))
   unfolding counted follow flow
   record-deep z e = rw (z, e)
 
   module _ {r : Frame} (e : frame-out r ≡ frame-at s (place c)) (some : left ≡ 0 → ⊥) where
-    pub record-cut : {x : Refusal} → r ≡ frame.Stop x → refusal x ≡ counted k (follow (flow 8 left) s (place c))
+    pub record-cut : {x : Outcome} → r ≡ frame.Stop x → refusal x ≡ counted k (follow (flow 8 left) s (place c))
     unfolding flow
     record-cut {x} h = go left some
       where
@@ -163,7 +164,7 @@ module _ (left : ℕ) (s : List ℕ) (c : Cursor) (k : ℕ) where
           go (suc l) z q = frame-held 2 (8 - l) (holds l) s (place c) k (rw h at e) ∙ ap (resumed (d .at)) (sym (rw sub-one at q))
 
       module _ {m : Scanned} (i : scanned-out m ≡ counted (k + 1) (follow (opened (flows (pdu (8 - (left - 1)) (flow 8 (left - 1)))) f) (take (x .start + x .count) s) (place (record { at = x .start; steps = d .steps })))) where
-        pub record-stop : {y : Refusal} → m ≡ scanned.Stop y → refusal y ≡ counted k (follow (flow 8 left) s (place c))
+        pub record-stop : {y : Outcome} → m ≡ scanned.Stop y → refusal y ≡ counted k (follow (flow 8 left) s (place c))
         unfolding resumed
         record-stop {y} w = sym (within (refusal y) (rw w at i))
 
@@ -186,15 +187,18 @@ module _ (left f : ℕ) (s : List ℕ) (c : Cursor) (k : ℕ) where
     same = ap (λ (x : Script). follow x s (place c)) (other _ z)
 
     module _ {r : Passed} (e : passed-out r nothing ≡ follow (opened (flows (give nothing)) f) s (place c)) where
-      pub data-stop : {x : Refusal} → r ≡ passed.Stop x → refusal x ≡ counted k (follow (opened (flows (pdu (8 - left) (flow 8 left))) f) s (place c))
+      pub data-stop : {x : Outcome} → r ≡ passed.Stop x → refusal x ≡ counted k (follow (opened (flows (pdu (8 - left) (flow 8 left))) f) s (place c))
       data-stop h = counted-stop k _ ((rw h at e) ∙ sym same)
 
       pub data-got : {d : Cursor} → r ≡ passed.Got d → got k (place d) ≡ counted k (follow (opened (flows (pdu (8 - left) (flow 8 left))) f) s (place c))
       data-got {d} h = counted-none k (place d) ((rw h at e) ∙ sym same)
 
 -- ---- an aggregation, by its PDU count
-module _ (left : ℕ) (s : List ℕ) (c : Cursor) (k : ℕ) {p : Passed} {n : ℕ} (e : Reads (words 1) s c p (number n ∷ [])) where
-  pub aggregation-cut : {x : Refusal} → p ≡ passed.Stop x → refusal x ≡ counted k (follow (opened (flows (pdu (8 - left) (flow 8 left))) 1016) s (place c))
+module _ (left : ℕ) (s : List ℕ) (c : Cursor) (k : ℕ) {o : Outcome} {p : Passed} {n : ℕ} (a : Answers (words 1) s (passed.Got c) o (number n ∷ [])) (i : p ≡ passed-of o) where
+  e : Reads (words 1) s c p (number n ∷ [])
+  e = reads-on a i refl
+
+  pub aggregation-cut : {x : Outcome} → p ≡ passed.Stop x → refusal x ≡ counted k (follow (opened (flows (pdu (8 - left) (flow 8 left))) 1016) s (place c))
   unfolding opened flows
   aggregation-cut h = fields-stop (words 1) s (place c) k _ (shown-halt s c (words 1) e h .stops)
 

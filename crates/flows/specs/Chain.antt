@@ -8,7 +8,7 @@ use Rattle.reading.specs.Cursor.{got}
 use Rattle.reading.specs.Layout.{Field, plain, str, list, segments}
 use Rattle.reading.proofs.Fields.{fields-out}
 use Rattle.xdr.specs.declared.Cursor.{Cursor}
-use Rattle.xdr.specs.declared.Refusal.{Refusal}
+use Rattle.xdr.specs.declared.Outcome.{Outcome}
 use Rattle.xdr.specs.declared.Passed.{Passed}
 use Rattle.xdr.specs.declared.Passed.the-variants as passed
 use Rattle.xdr.specs.declared.Part.{Part}
@@ -21,13 +21,13 @@ use Rattle.xdr.specs.Shown.{place, Inside, refusal}
 -- an outcome that can be read on from
 pub data Within (s : List ℕ) : Passed → Type 0 where
   inside : {c : Cursor} → Inside s c → Within s (passed.Got c)
-  over : {x : Refusal} → Within s (passed.Stop x)
+  over : {x : Outcome} → Within s (passed.Stop x)
 
 -- the fields l, read on from p, end so; their values count where they were read
 pub data Then (l : List Field) (s : List ℕ) : Passed → Passed → List Value → Type 0 where
   goes : {d e : Cursor} {vs : List Value} → fields-out l s (place d) ≡ got vs (place e) → Inside s e → Then l s (passed.Got d) (passed.Got e) vs
-  halts : {d : Cursor} {x : Refusal} {vs : List Value} → fields-out l s (place d) ≡ refusal x → Then l s (passed.Got d) (passed.Stop x) vs
-  stays : {x : Refusal} {vs : List Value} → Then l s (passed.Stop x) (passed.Stop x) vs
+  halts : {d : Cursor} {x : Outcome} {vs : List Value} → fields-out l s (place d) ≡ refusal x → Then l s (passed.Got d) (passed.Stop x) vs
+  stays : {x : Outcome} {vs : List Value} → Then l s (passed.Stop x) (passed.Stop x) vs
 
 -- the first n of some words, as they are read one by one
 abbrev pub loaded-from : ℕ → List ℕ → (i : ℕ) → List Value
@@ -45,7 +45,7 @@ field-of kind.Text = str
 field-of kind.List = list
 field-of kind.Segments = segments
 
-abbrev pub no-range : Refusal → Ranged
+abbrev pub no-range : Outcome → Ranged
 no-range x = record { passed = passed.Stop x; span = record { start = 0; count = 0 } }
 
 abbrev pub range-of : Part → Ranged

@@ -1,7 +1,9 @@
 -- What this crate's records are in terms of the reading: the values of their fields, in the order of the layout. Assumes nothing.
+use Prim.Native.Nat.{ℕ}
 use mathlib.Core.List.{List, [], _∷_}
 use Rattle.reading.specs.Script.{Value, number, octets, part}
 use Rattle.xdr.specs.Shown.{span, an-address}
+use Rattle.flows.specs.Chain.{loaded}
 use Rattle.flows.specs.declared.sampled.SampledHeader.{SampledHeader}
 use Rattle.flows.specs.declared.sampled.SampledEthernet.{SampledEthernet}
 use Rattle.flows.specs.declared.sampled.SampledIpv4.{SampledIpv4}
@@ -46,8 +48,8 @@ extended-router r = an-address (r .«next_hop») ∷ number (r .«src_mask_len»
 abbrev pub route : Route → List Value
 route r = part (span (r .«dst_as_path»)) ∷ part (span (r .communities)) ∷ number (r .«local_pref») ∷ []
 
-abbrev pub network : Network → List Value
-network r = part (span (r .ssid)) ∷ octets (r .bssid) ∷ []
+abbrev pub network : ℕ → Network → List Value
+network n r = part (span (r .ssid)) ∷ octets (r .bssid) ∷ loaded n (r .words)
 
 abbrev pub extended-gateway : ExtendedGateway → List Value
 extended-gateway r = an-address (r .«next_hop») ∷ number (r .«as_number») ∷ number (r .«src_as») ∷ number (r .«src_peer_as») ∷ part (span (r .«dst_as_path»)) ∷ part (span (r .communities)) ∷ number (r .«local_pref») ∷ []

@@ -4,20 +4,20 @@ ghost use mathlib.Core.List.{[], _∷_, _++_};
 ghost use Rattle.reading.specs.Layout.{addr, list, segments, str, words};
 ghost use Rattle.reading.specs.Values.{zeros};
 ghost use Rattle.reading.specs.Answer.{layout-of};
-ghost use Rattle.xdr.specs.Shown.{Inside, Reads};
+ghost use Rattle.xdr.specs.Shown.{Answers};
 ghost use Rattle.flows.specs.Chain.{Within, Then};
 ghost use Rattle.flows.specs.Shown.{extended-switch, extended-router, route, extended-gateway, extended-user, extended-url, extended-nat, extended-vlan-tunnel};
 use crate::next;
 use crate::next::Kind;
 use xdr::Address;
-use xdr::Cursor;
+use xdr::Outcome;
 use xdr::Passed;
-use xdr::Refusal;
 use xdr::Span;
 
 // Format 1001: the VLANs and priorities of a switched packet.
+#[repr(C)]
 pub struct ExtendedSwitch {
-    pub passed: Passed,
+    pub outcome: Outcome,
     pub src_vlan: u32,
     pub src_priority: u32,
     pub dst_vlan: u32,
@@ -25,23 +25,23 @@ pub struct ExtendedSwitch {
 }
 
 impl ExtendedSwitch {
-    pub fn parse(c: Cursor, s: &[u8]) -> ExtendedSwitch
-        requires { ⌜ Inside (now s) c ⌝ }
-        ensures { λ r. ⌜ Reads (layout-of 2 1001) (now (s .entry)) c (r .passed) (extended-switch r) ⌝ }
+    pub fn parse(p: Passed, s: &[u8]) -> ExtendedSwitch
+        requires { ⌜ Within (now s) p ⌝ }
+        ensures { λ r. ⌜ Answers (layout-of 2 1001) (now (s .entry)) p (r .outcome) (extended-switch r) ⌝ }
     {
-        let row = next::words(Passed::Got(c), s, 4);
+        let row = next::words(p, s, 4);
         let passed = row.passed;
         let words = row.words;
         match passed {
             Passed::Stop(r) => ExtendedSwitch {
-                passed: Passed::Stop(r),
+                outcome: r,
                 src_vlan: 0,
                 src_priority: 0,
                 dst_vlan: 0,
                 dst_priority: 0,
             },
             Passed::Got(d) => ExtendedSwitch {
-                passed: Passed::Got(d),
+                outcome: d.accepted(),
                 src_vlan: words[0],
                 src_priority: words[1],
                 dst_vlan: words[2],
@@ -52,19 +52,20 @@ impl ExtendedSwitch {
 }
 
 // Format 1002: the next hop of a routed packet, and the masks of its ends.
+#[repr(C)]
 pub struct ExtendedRouter {
-    pub passed: Passed,
+    pub outcome: Outcome,
     pub next_hop: Address,
     pub src_mask_len: u32,
     pub dst_mask_len: u32,
 }
 
 impl ExtendedRouter {
-    pub fn parse(c: Cursor, s: &[u8]) -> ExtendedRouter
-        requires { ⌜ Inside (now s) c ⌝ }
-        ensures { λ r. ⌜ Reads (layout-of 2 1002) (now (s .entry)) c (r .passed) (extended-router r) ⌝ }
+    pub fn parse(p: Passed, s: &[u8]) -> ExtendedRouter
+        requires { ⌜ Within (now s) p ⌝ }
+        ensures { λ r. ⌜ Answers (layout-of 2 1002) (now (s .entry)) p (r .outcome) (extended-router r) ⌝ }
     {
-        let hop = next::address(Passed::Got(c), s);
+        let hop = next::address(p, s);
         let passed = hop.passed;
         let next_hop = hop.address;
         let row = next::words(passed, s, 2);
@@ -72,7 +73,7 @@ impl ExtendedRouter {
         let masks = row.words;
         match passed {
             Passed::Stop(r) => ExtendedRouter {
-                passed: Passed::Stop(r),
+                outcome: r,
                 next_hop: Address {
                     kind: 0,
                     bytes: [0u8; 16],
@@ -81,7 +82,7 @@ impl ExtendedRouter {
                 dst_mask_len: 0,
             },
             Passed::Got(d) => ExtendedRouter {
-                passed: Passed::Got(d),
+                outcome: d.accepted(),
                 next_hop: next_hop,
                 src_mask_len: masks[0],
                 dst_mask_len: masks[1],
@@ -111,19 +112,19 @@ impl Route {
         let communities = marks.span;
         let pref = next::word(passed, s);
         let passed = pref.passed;
-        let local_pref = pref.value;
         Route {
             passed: passed,
             dst_as_path: dst_as_path,
             communities: communities,
-            local_pref: local_pref,
+            local_pref: pref.value,
         }
     }
 }
 
 // Format 1003: the BGP route of a packet. `dst_as_path` is where the first segment begins, and how many there are.
+#[repr(C)]
 pub struct ExtendedGateway {
-    pub passed: Passed,
+    pub outcome: Outcome,
     pub next_hop: Address,
     pub as_number: u32,
     pub src_as: u32,
@@ -134,11 +135,11 @@ pub struct ExtendedGateway {
 }
 
 impl ExtendedGateway {
-    fn none(r: Refusal) -> ExtendedGateway
-        ensures { λ a. ⌜ (a .passed ≡ Passed.Stop r) × (extended-gateway a ≡ zeros (addr ∷ words 3 ++ segments ∷ list ∷ words 1)) ⌝ }
+    fn none(r: Outcome) -> ExtendedGateway
+        ensures { λ a. ⌜ (a .outcome ≡ r) × (extended-gateway a ≡ zeros (addr ∷ words 3 ++ segments ∷ list ∷ words 1)) ⌝ }
     {
         ExtendedGateway {
-            passed: Passed::Stop(r),
+            outcome: r,
             next_hop: Address {
                 kind: 0,
                 bytes: [0u8; 16],
@@ -152,11 +153,11 @@ impl ExtendedGateway {
         }
     }
 
-    pub fn parse(c: Cursor, s: &[u8]) -> ExtendedGateway
-        requires { ⌜ Inside (now s) c ⌝ }
-        ensures { λ r. ⌜ Reads (layout-of 2 1003) (now (s .entry)) c (r .passed) (extended-gateway r) ⌝ }
+    pub fn parse(p: Passed, s: &[u8]) -> ExtendedGateway
+        requires { ⌜ Within (now s) p ⌝ }
+        ensures { λ r. ⌜ Answers (layout-of 2 1003) (now (s .entry)) p (r .outcome) (extended-gateway r) ⌝ }
     {
-        let hop = next::address(Passed::Got(c), s);
+        let hop = next::address(p, s);
         let passed = hop.passed;
         let next_hop = hop.address;
         let row = next::words(passed, s, 3);
@@ -170,7 +171,7 @@ impl ExtendedGateway {
         match passed {
             Passed::Stop(r) => ExtendedGateway::none(r),
             Passed::Got(d) => ExtendedGateway {
-                passed: Passed::Got(d),
+                outcome: d.accepted(),
                 next_hop: next_hop,
                 as_number: numbers[0],
                 src_as: numbers[1],
@@ -184,8 +185,9 @@ impl ExtendedGateway {
 }
 
 // Format 1004: the users at both ends of a packet.
+#[repr(C)]
 pub struct ExtendedUser {
-    pub passed: Passed,
+    pub outcome: Outcome,
     pub src_charset: u32,
     pub src_user: Span,
     pub dst_charset: u32,
@@ -193,11 +195,11 @@ pub struct ExtendedUser {
 }
 
 impl ExtendedUser {
-    fn none(r: Refusal) -> ExtendedUser
-        ensures { λ a. ⌜ (a .passed ≡ Passed.Stop r) × (extended-user a ≡ zeros (words 1 ++ str ∷ words 1 ++ str ∷ [])) ⌝ }
+    fn none(r: Outcome) -> ExtendedUser
+        ensures { λ a. ⌜ (a .outcome ≡ r) × (extended-user a ≡ zeros (words 1 ++ str ∷ words 1 ++ str ∷ [])) ⌝ }
     {
         ExtendedUser {
-            passed: Passed::Stop(r),
+            outcome: r,
             src_charset: 0,
             src_user: Span { start: 0, count: 0 },
             dst_charset: 0,
@@ -205,11 +207,11 @@ impl ExtendedUser {
         }
     }
 
-    pub fn parse(c: Cursor, s: &[u8]) -> ExtendedUser
-        requires { ⌜ Inside (now s) c ⌝ }
-        ensures { λ r. ⌜ Reads (layout-of 2 1004) (now (s .entry)) c (r .passed) (extended-user r) ⌝ }
+    pub fn parse(p: Passed, s: &[u8]) -> ExtendedUser
+        requires { ⌜ Within (now s) p ⌝ }
+        ensures { λ r. ⌜ Answers (layout-of 2 1004) (now (s .entry)) p (r .outcome) (extended-user r) ⌝ }
     {
-        let src = next::word(Passed::Got(c), s);
+        let src = next::word(p, s);
         let passed = src.passed;
         let src_charset = src.value;
         let src = next::range(passed, s, Kind::Text);
@@ -224,7 +226,7 @@ impl ExtendedUser {
         match passed {
             Passed::Stop(r) => ExtendedUser::none(r),
             Passed::Got(d) => ExtendedUser {
-                passed: Passed::Got(d),
+                outcome: d.accepted(),
                 src_charset: src_charset,
                 src_user: src_user,
                 dst_charset: dst_charset,
@@ -235,21 +237,21 @@ impl ExtendedUser {
 }
 
 // Format 1005: the URL that was asked for.
+#[repr(C)]
 pub struct ExtendedUrl {
-    pub passed: Passed,
+    pub outcome: Outcome,
     pub direction: u32,
     pub url: Span,
     pub host: Span,
 }
 
 impl ExtendedUrl {
-    pub fn parse(c: Cursor, s: &[u8]) -> ExtendedUrl
-        requires { ⌜ Inside (now s) c ⌝ }
-        ensures { λ r. ⌜ Reads (layout-of 2 1005) (now (s .entry)) c (r .passed) (extended-url r) ⌝ }
+    pub fn parse(p: Passed, s: &[u8]) -> ExtendedUrl
+        requires { ⌜ Within (now s) p ⌝ }
+        ensures { λ r. ⌜ Answers (layout-of 2 1005) (now (s .entry)) p (r .outcome) (extended-url r) ⌝ }
     {
-        let way = next::word(Passed::Got(c), s);
+        let way = next::word(p, s);
         let passed = way.passed;
-        let direction = way.value;
         let path = next::range(passed, s, Kind::Text);
         let passed = path.passed;
         let url = path.span;
@@ -258,14 +260,14 @@ impl ExtendedUrl {
         let host = server.span;
         match passed {
             Passed::Stop(r) => ExtendedUrl {
-                passed: Passed::Stop(r),
+                outcome: r,
                 direction: 0,
                 url: Span { start: 0, count: 0 },
                 host: Span { start: 0, count: 0 },
             },
             Passed::Got(d) => ExtendedUrl {
-                passed: Passed::Got(d),
-                direction: direction,
+                outcome: d.accepted(),
+                direction: way.value,
                 url: url,
                 host: host,
             },
@@ -274,18 +276,19 @@ impl ExtendedUrl {
 }
 
 // Format 1007: the addresses that a packet had before or has after their translation.
+#[repr(C)]
 pub struct ExtendedNat {
-    pub passed: Passed,
+    pub outcome: Outcome,
     pub src_address: Address,
     pub dst_address: Address,
 }
 
 impl ExtendedNat {
-    pub fn parse(c: Cursor, s: &[u8]) -> ExtendedNat
-        requires { ⌜ Inside (now s) c ⌝ }
-        ensures { λ r. ⌜ Reads (layout-of 2 1007) (now (s .entry)) c (r .passed) (extended-nat r) ⌝ }
+    pub fn parse(p: Passed, s: &[u8]) -> ExtendedNat
+        requires { ⌜ Within (now s) p ⌝ }
+        ensures { λ r. ⌜ Answers (layout-of 2 1007) (now (s .entry)) p (r .outcome) (extended-nat r) ⌝ }
     {
-        let src = next::address(Passed::Got(c), s);
+        let src = next::address(p, s);
         let passed = src.passed;
         let src_address = src.address;
         let dst = next::address(passed, s);
@@ -293,7 +296,7 @@ impl ExtendedNat {
         let dst_address = dst.address;
         match passed {
             Passed::Stop(r) => ExtendedNat {
-                passed: Passed::Stop(r),
+                outcome: r,
                 src_address: Address {
                     kind: 0,
                     bytes: [0u8; 16],
@@ -304,7 +307,7 @@ impl ExtendedNat {
                 },
             },
             Passed::Got(d) => ExtendedNat {
-                passed: Passed::Got(d),
+                outcome: d.accepted(),
                 src_address: src_address,
                 dst_address: dst_address,
             },
@@ -313,26 +316,27 @@ impl ExtendedNat {
 }
 
 // Format 1012: the VLAN tags that a packet was stripped of.
+#[repr(C)]
 pub struct ExtendedVlanTunnel {
-    pub passed: Passed,
+    pub outcome: Outcome,
     pub stack: Span,
 }
 
 impl ExtendedVlanTunnel {
-    pub fn parse(c: Cursor, s: &[u8]) -> ExtendedVlanTunnel
-        requires { ⌜ Inside (now s) c ⌝ }
-        ensures { λ r. ⌜ Reads (layout-of 2 1012) (now (s .entry)) c (r .passed) (extended-vlan-tunnel r) ⌝ }
+    pub fn parse(p: Passed, s: &[u8]) -> ExtendedVlanTunnel
+        requires { ⌜ Within (now s) p ⌝ }
+        ensures { λ r. ⌜ Answers (layout-of 2 1012) (now (s .entry)) p (r .outcome) (extended-vlan-tunnel r) ⌝ }
     {
-        let tags = next::range(Passed::Got(c), s, Kind::List);
+        let tags = next::range(p, s, Kind::List);
         let passed = tags.passed;
         let stack = tags.span;
         match passed {
             Passed::Stop(r) => ExtendedVlanTunnel {
-                passed: Passed::Stop(r),
+                outcome: r,
                 stack: Span { start: 0, count: 0 },
             },
             Passed::Got(d) => ExtendedVlanTunnel {
-                passed: Passed::Got(d),
+                outcome: d.accepted(),
                 stack: stack,
             },
         }

@@ -4,21 +4,21 @@ ghost use Rattle.reading.proofs.Counts.{frame-at};
 ghost use Rattle.xdr.specs.Shown.{Inside, place};
 ghost use Rattle.flows.specs.Scanned.{frame-out};
 use xdr::Cursor;
+use xdr::Outcome;
 use xdr::Part;
-use xdr::Refusal;
 use xdr::Span;
 use xdr::Word;
 
 // The format, where the payload lies, and the cursor behind the pad.
 pub enum Frame {
     Got(u32, Span, Cursor),
-    Stop(Refusal),
+    Stop(Outcome),
 }
 
 // All is well up to the cursor, with so many descriptors; or it is not.
 pub enum Scanned {
     Got(Cursor, usize),
-    Stop(Refusal),
+    Stop(Outcome),
 }
 
 impl Frame {

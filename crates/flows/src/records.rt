@@ -87,10 +87,10 @@ fn aggregation(s: &[u8], c: Cursor, left: usize, count: usize) -> Scanned
     requires { ⌜ Scan (now s) c count ⌝ }
     ensures { λ r. ⌜ scanned-out r ≡ counted count (follow (opened (flows (pdu (8 - left) (flow 8 left))) 1016) (now (s .entry)) (place c)) ⌝ }
 {
-    let head = Extended80211Aggregation::parse(c, s);
-    let passed = head.passed;
+    let head = Extended80211Aggregation::parse(Passed::Got(c), s);
+    let outcome = head.outcome;
     let n = head.pdu_count;
-    match passed {
+    match outcome.passed() {
         Passed::Stop(r) => Scanned::Stop(r),
         Passed::Got(d) => pdus(s, d, n, left, count),
     }

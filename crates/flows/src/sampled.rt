@@ -5,20 +5,33 @@ ghost use Rattle.reading.specs.Script.{number, sixteen};
 ghost use Rattle.reading.specs.Layout.{bytes, protocol, words};
 ghost use Rattle.reading.specs.Values.{zeros};
 ghost use Rattle.reading.specs.Answer.{layout-of};
-ghost use Rattle.xdr.specs.Shown.{Inside, Reads, refused};
-ghost use Rattle.flows.specs.Chain.{Then};
+ghost use Rattle.xdr.specs.Shown.{Inside, Answers, refused};
+ghost use Rattle.flows.specs.Chain.{Within, Then};
 ghost use Rattle.flows.specs.Shown.{sampled-header, sampled-ethernet, sampled-ipv4, sampled-ipv6};
 use crate::next;
 use crate::next::Kind;
 use crate::next::Number;
 use xdr::Cursor;
+use xdr::Outcome;
 use xdr::Passed;
-use xdr::Refusal;
 use xdr::Span;
 use xdr::Word;
 
 // The protocol of a header, one of those that `HeaderProtocol` knows.
-fn protocol(c: Cursor, s: &[u8]) -> Number
+fn protocol(p: Passed, s: &[u8]) -> Number
+    requires { ⌜ Within (now s) p ⌝ }
+    ensures { λ r. ⌜ Then (protocol ∷ []) (now (s .entry)) p (r .passed) (number (r .value) ∷ []) ⌝ }
+{
+    match p {
+        Passed::Stop(r) => Number {
+            passed: Passed::Stop(r),
+            value: 0,
+        },
+        Passed::Got(c) => protocol_at(c, s),
+    }
+}
+
+fn protocol_at(c: Cursor, s: &[u8]) -> Number
     requires { ⌜ Inside (now s) c ⌝ }
     ensures { λ r. ⌜ Then (protocol ∷ []) (now (s .entry)) (Passed.Got c) (r .passed) (number (r .value) ∷ []) ⌝ }
 {
@@ -52,8 +65,9 @@ fn unknown(c: Cursor) -> Number
 }
 
 // Format 1: the packet's first bytes, by the protocol of its header.
+#[repr(C)]
 pub struct SampledHeader {
-    pub passed: Passed,
+    pub outcome: Outcome,
     pub protocol: u32,
     pub frame_length: u32,
     pub stripped: u32,
@@ -61,13 +75,12 @@ pub struct SampledHeader {
 }
 
 impl SampledHeader {
-    pub fn parse(c: Cursor, s: &[u8]) -> SampledHeader
-        requires { ⌜ Inside (now s) c ⌝ }
-        ensures { λ r. ⌜ Reads (layout-of 2 1) (now (s .entry)) c (r .passed) (sampled-header r) ⌝ }
+    pub fn parse(p: Passed, s: &[u8]) -> SampledHeader
+        requires { ⌜ Within (now s) p ⌝ }
+        ensures { λ r. ⌜ Answers (layout-of 2 1) (now (s .entry)) p (r .outcome) (sampled-header r) ⌝ }
     {
-        let kind = protocol(c, s);
+        let kind = protocol(p, s);
         let passed = kind.passed;
-        let protocol = kind.value;
         let row = next::words(passed, s, 2);
         let passed = row.passed;
         let sizes = row.words;
@@ -76,15 +89,15 @@ impl SampledHeader {
         let header = bytes.span;
         match passed {
             Passed::Stop(r) => SampledHeader {
-                passed: Passed::Stop(r),
+                outcome: r,
                 protocol: 0,
                 frame_length: 0,
                 stripped: 0,
                 header: Span { start: 0, count: 0 },
             },
             Passed::Got(d) => SampledHeader {
-                passed: Passed::Got(d),
-                protocol: protocol,
+                outcome: d.accepted(),
+                protocol: kind.value,
                 frame_length: sizes[0],
                 stripped: sizes[1],
                 header: header,
@@ -94,8 +107,9 @@ impl SampledHeader {
 }
 
 // Format 2: an Ethernet frame.
+#[repr(C)]
 pub struct SampledEthernet {
-    pub passed: Passed,
+    pub outcome: Outcome,
     pub length: u32,
     pub src_mac: [u8; 6],
     pub dst_mac: [u8; 6],
@@ -103,13 +117,12 @@ pub struct SampledEthernet {
 }
 
 impl SampledEthernet {
-    pub fn parse(c: Cursor, s: &[u8]) -> SampledEthernet
-        requires { ⌜ Inside (now s) c ⌝ }
-        ensures { λ r. ⌜ Reads (layout-of 2 2) (now (s .entry)) c (r .passed) (sampled-ethernet r) ⌝ }
+    pub fn parse(p: Passed, s: &[u8]) -> SampledEthernet
+        requires { ⌜ Within (now s) p ⌝ }
+        ensures { λ r. ⌜ Answers (layout-of 2 2) (now (s .entry)) p (r .outcome) (sampled-ethernet r) ⌝ }
     {
-        let size = next::word(Passed::Got(c), s);
+        let size = next::word(p, s);
         let passed = size.passed;
-        let length = size.value;
         let src = next::six(passed, s, false);
         let passed = src.passed;
         let src_mac = src.bytes;
@@ -118,29 +131,29 @@ impl SampledEthernet {
         let dst_mac = dst.bytes;
         let kind = next::word(passed, s);
         let passed = kind.passed;
-        let eth_type = kind.value;
         match passed {
             Passed::Stop(r) => SampledEthernet {
-                passed: Passed::Stop(r),
+                outcome: r,
                 length: 0,
                 src_mac: [0u8; 6],
                 dst_mac: [0u8; 6],
                 eth_type: 0,
             },
             Passed::Got(d) => SampledEthernet {
-                passed: Passed::Got(d),
-                length: length,
+                outcome: d.accepted(),
+                length: size.value,
                 src_mac: src_mac,
                 dst_mac: dst_mac,
-                eth_type: eth_type,
+                eth_type: kind.value,
             },
         }
     }
 }
 
 // Format 3: an IPv4 packet.
+#[repr(C)]
 pub struct SampledIpv4 {
-    pub passed: Passed,
+    pub outcome: Outcome,
     pub length: u32,
     pub protocol: u32,
     pub src_ip: u32,
@@ -152,16 +165,16 @@ pub struct SampledIpv4 {
 }
 
 impl SampledIpv4 {
-    pub fn parse(c: Cursor, s: &[u8]) -> SampledIpv4
-        requires { ⌜ Inside (now s) c ⌝ }
-        ensures { λ r. ⌜ Reads (layout-of 2 3) (now (s .entry)) c (r .passed) (sampled-ipv4 r) ⌝ }
+    pub fn parse(p: Passed, s: &[u8]) -> SampledIpv4
+        requires { ⌜ Within (now s) p ⌝ }
+        ensures { λ r. ⌜ Answers (layout-of 2 3) (now (s .entry)) p (r .outcome) (sampled-ipv4 r) ⌝ }
     {
-        let row = next::words(Passed::Got(c), s, 8);
+        let row = next::words(p, s, 8);
         let passed = row.passed;
         let words = row.words;
         match passed {
             Passed::Stop(r) => SampledIpv4 {
-                passed: Passed::Stop(r),
+                outcome: r,
                 length: 0,
                 protocol: 0,
                 src_ip: 0,
@@ -172,7 +185,7 @@ impl SampledIpv4 {
                 tos: 0,
             },
             Passed::Got(d) => SampledIpv4 {
-                passed: Passed::Got(d),
+                outcome: d.accepted(),
                 length: words[0],
                 protocol: words[1],
                 src_ip: words[2],
@@ -187,8 +200,9 @@ impl SampledIpv4 {
 }
 
 // Format 4: an IPv6 packet.
+#[repr(C)]
 pub struct SampledIpv6 {
-    pub passed: Passed,
+    pub outcome: Outcome,
     pub length: u32,
     pub protocol: u32,
     pub src_ip: [u8; 16],
@@ -200,11 +214,11 @@ pub struct SampledIpv6 {
 }
 
 impl SampledIpv6 {
-    fn none(r: Refusal) -> SampledIpv6
-        ensures { λ a. ⌜ (a .passed ≡ Passed.Stop r) × (sampled-ipv6 a ≡ zeros (words 2 ++ bytes sixteen ∷ bytes sixteen ∷ words 4)) ⌝ }
+    fn none(r: Outcome) -> SampledIpv6
+        ensures { λ a. ⌜ (a .outcome ≡ r) × (sampled-ipv6 a ≡ zeros (words 2 ++ bytes sixteen ∷ bytes sixteen ∷ words 4)) ⌝ }
     {
         SampledIpv6 {
-            passed: Passed::Stop(r),
+            outcome: r,
             length: 0,
             protocol: 0,
             src_ip: [0u8; 16],
@@ -216,11 +230,11 @@ impl SampledIpv6 {
         }
     }
 
-    pub fn parse(c: Cursor, s: &[u8]) -> SampledIpv6
-        requires { ⌜ Inside (now s) c ⌝ }
-        ensures { λ r. ⌜ Reads (layout-of 2 4) (now (s .entry)) c (r .passed) (sampled-ipv6 r) ⌝ }
+    pub fn parse(p: Passed, s: &[u8]) -> SampledIpv6
+        requires { ⌜ Within (now s) p ⌝ }
+        ensures { λ r. ⌜ Answers (layout-of 2 4) (now (s .entry)) p (r .outcome) (sampled-ipv6 r) ⌝ }
     {
-        let row = next::words(Passed::Got(c), s, 2);
+        let row = next::words(p, s, 2);
         let passed = row.passed;
         let head = row.words;
         let src = next::sixteen(passed, s);
@@ -235,7 +249,7 @@ impl SampledIpv6 {
         match passed {
             Passed::Stop(r) => SampledIpv6::none(r),
             Passed::Got(d) => SampledIpv6 {
-                passed: Passed::Got(d),
+                outcome: d.accepted(),
                 length: head[0],
                 protocol: head[1],
                 src_ip: src_ip,

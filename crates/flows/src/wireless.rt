@@ -1,82 +1,89 @@
 // 802.11: what was sent or received by radio.
 ghost use mathlib.Core.Path.{_≡_};
 ghost use mathlib.Core.List.{[], _∷_, _++_};
+ghost use Prim.Native.Nat.{_≤_};
 ghost use Rattle.reading.specs.Script.{long};
 ghost use Rattle.reading.specs.Layout.{mac, plain, str, words};
 ghost use Rattle.reading.specs.Values.{zeros};
 ghost use Rattle.reading.specs.Answer.{layout-of};
-ghost use Rattle.xdr.specs.Shown.{Inside, Reads};
-ghost use Rattle.flows.specs.Chain.{Then};
+ghost use Rattle.xdr.specs.Shown.{Answers};
+ghost use Rattle.flows.specs.Chain.{Within, Then};
 ghost use Rattle.flows.specs.Shown.{extended-80211-payload, network, extended-80211-rx, extended-80211-tx, extended-80211-aggregation};
 use crate::next;
 use crate::next::Kind;
-use xdr::Cursor;
+use xdr::Outcome;
 use xdr::Passed;
-use xdr::Refusal;
 use xdr::Span;
 
 // Format 1013: the payload as it was before it was encrypted.
+#[repr(C)]
 pub struct Extended80211Payload {
-    pub passed: Passed,
+    pub outcome: Outcome,
     pub cipher_suite: u32,
     pub data: Span,
 }
 
 impl Extended80211Payload {
-    pub fn parse(c: Cursor, s: &[u8]) -> Extended80211Payload
-        requires { ⌜ Inside (now s) c ⌝ }
-        ensures { λ r. ⌜ Reads (layout-of 2 1013) (now (s .entry)) c (r .passed) (extended-80211-payload r) ⌝ }
+    pub fn parse(p: Passed, s: &[u8]) -> Extended80211Payload
+        requires { ⌜ Within (now s) p ⌝ }
+        ensures { λ r. ⌜ Answers (layout-of 2 1013) (now (s .entry)) p (r .outcome) (extended-80211-payload r) ⌝ }
     {
-        let suite = next::word(Passed::Got(c), s);
+        let suite = next::word(p, s);
         let passed = suite.passed;
-        let cipher_suite = suite.value;
         let bytes = next::range(passed, s, Kind::Opaque);
         let passed = bytes.passed;
         let data = bytes.span;
         match passed {
             Passed::Stop(r) => Extended80211Payload {
-                passed: Passed::Stop(r),
+                outcome: r,
                 cipher_suite: 0,
                 data: Span { start: 0, count: 0 },
             },
             Passed::Got(d) => Extended80211Payload {
-                passed: Passed::Got(d),
-                cipher_suite: cipher_suite,
+                outcome: d.accepted(),
+                cipher_suite: suite.value,
                 data: data,
             },
         }
     }
 }
 
-// What formats 1014 and 1015 begin with: a network, and its station.
+// What formats 1014 and 1015 begin with: a network, its station, and n words.
 struct Network {
     passed: Passed,
     ssid: Span,
     bssid: [u8; 6],
+    words: [u32; 8],
 }
 
 impl Network {
-    fn parse(c: Cursor, s: &[u8]) -> Network
-        requires { ⌜ Inside (now s) c ⌝ }
-        ensures { λ r. ⌜ Then (str ∷ mac ∷ []) (now (s .entry)) (Passed.Got c) (r .passed) (network r) ⌝ }
+    fn parse(p: Passed, s: &[u8], n: u32) -> Network
+        requires { ⌜ Within (now s) p ⌝ }
+        requires { ⌜ n ≤ 8 ⌝ }
+        ensures { λ r. ⌜ Then (str ∷ mac ∷ words n) (now (s .entry)) p (r .passed) (network n r) ⌝ }
     {
-        let name = next::range(Passed::Got(c), s, Kind::Text);
+        let name = next::range(p, s, Kind::Text);
         let passed = name.passed;
         let ssid = name.span;
         let station = next::six(passed, s, true);
         let passed = station.passed;
         let bssid = station.bytes;
+        let row = next::words(passed, s, n);
+        let passed = row.passed;
+        let words = row.words;
         Network {
             passed: passed,
             ssid: ssid,
             bssid: bssid,
+            words: words,
         }
     }
 }
 
 // Format 1014: how a packet was received.
+#[repr(C)]
 pub struct Extended80211Rx {
-    pub passed: Passed,
+    pub outcome: Outcome,
     pub ssid: Span,
     pub bssid: [u8; 6],
     pub version: u32,
@@ -88,11 +95,11 @@ pub struct Extended80211Rx {
 }
 
 impl Extended80211Rx {
-    fn none(r: Refusal) -> Extended80211Rx
-        ensures { λ a. ⌜ (a .passed ≡ Passed.Stop r) × (extended-80211-rx a ≡ zeros (str ∷ mac ∷ words 2 ++ plain long ∷ words 3)) ⌝ }
+    fn none(r: Outcome) -> Extended80211Rx
+        ensures { λ a. ⌜ (a .outcome ≡ r) × (extended-80211-rx a ≡ zeros (str ∷ mac ∷ words 2 ++ plain long ∷ words 3)) ⌝ }
     {
         Extended80211Rx {
-            passed: Passed::Stop(r),
+            outcome: r,
             ssid: Span { start: 0, count: 0 },
             bssid: [0u8; 6],
             version: 0,
@@ -104,32 +111,29 @@ impl Extended80211Rx {
         }
     }
 
-    pub fn parse(c: Cursor, s: &[u8]) -> Extended80211Rx
-        requires { ⌜ Inside (now s) c ⌝ }
-        ensures { λ r. ⌜ Reads (layout-of 2 1014) (now (s .entry)) c (r .passed) (extended-80211-rx r) ⌝ }
+    pub fn parse(p: Passed, s: &[u8]) -> Extended80211Rx
+        requires { ⌜ Within (now s) p ⌝ }
+        ensures { λ r. ⌜ Answers (layout-of 2 1014) (now (s .entry)) p (r .outcome) (extended-80211-rx r) ⌝ }
     {
-        let network = Network::parse(c, s);
+        let network = Network::parse(p, s, 2);
         let passed = network.passed;
         let ssid = network.ssid;
         let bssid = network.bssid;
-        let row = next::words(passed, s, 2);
-        let passed = row.passed;
-        let words = row.words;
+        let words = network.words;
         let rate = next::long(passed, s);
         let passed = rate.passed;
-        let speed = rate.value;
         let row = next::words(passed, s, 3);
         let passed = row.passed;
         let tail = row.words;
         match passed {
             Passed::Stop(r) => Extended80211Rx::none(r),
             Passed::Got(d) => Extended80211Rx {
-                passed: Passed::Got(d),
+                outcome: d.accepted(),
                 ssid: ssid,
                 bssid: bssid,
                 version: words[0],
                 channel: words[1],
-                speed: speed,
+                speed: rate.value,
                 rsni: tail[0],
                 rcpi: tail[1],
                 packet_duration: tail[2],
@@ -139,8 +143,9 @@ impl Extended80211Rx {
 }
 
 // Format 1015: how a packet was sent.
+#[repr(C)]
 pub struct Extended80211Tx {
-    pub passed: Passed,
+    pub outcome: Outcome,
     pub ssid: Span,
     pub bssid: [u8; 6],
     pub version: u32,
@@ -153,11 +158,11 @@ pub struct Extended80211Tx {
 }
 
 impl Extended80211Tx {
-    fn none(r: Refusal) -> Extended80211Tx
-        ensures { λ a. ⌜ (a .passed ≡ Passed.Stop r) × (extended-80211-tx a ≡ zeros (str ∷ mac ∷ words 5 ++ plain long ∷ words 1)) ⌝ }
+    fn none(r: Outcome) -> Extended80211Tx
+        ensures { λ a. ⌜ (a .outcome ≡ r) × (extended-80211-tx a ≡ zeros (str ∷ mac ∷ words 5 ++ plain long ∷ words 1)) ⌝ }
     {
         Extended80211Tx {
-            passed: Passed::Stop(r),
+            outcome: r,
             ssid: Span { start: 0, count: 0 },
             bssid: [0u8; 6],
             version: 0,
@@ -170,27 +175,23 @@ impl Extended80211Tx {
         }
     }
 
-    pub fn parse(c: Cursor, s: &[u8]) -> Extended80211Tx
-        requires { ⌜ Inside (now s) c ⌝ }
-        ensures { λ r. ⌜ Reads (layout-of 2 1015) (now (s .entry)) c (r .passed) (extended-80211-tx r) ⌝ }
+    pub fn parse(p: Passed, s: &[u8]) -> Extended80211Tx
+        requires { ⌜ Within (now s) p ⌝ }
+        ensures { λ r. ⌜ Answers (layout-of 2 1015) (now (s .entry)) p (r .outcome) (extended-80211-tx r) ⌝ }
     {
-        let network = Network::parse(c, s);
+        let network = Network::parse(p, s, 5);
         let passed = network.passed;
         let ssid = network.ssid;
         let bssid = network.bssid;
-        let row = next::words(passed, s, 5);
-        let passed = row.passed;
-        let words = row.words;
+        let words = network.words;
         let rate = next::long(passed, s);
         let passed = rate.passed;
-        let speed = rate.value;
         let level = next::word(passed, s);
         let passed = level.passed;
-        let power = level.value;
         match passed {
             Passed::Stop(r) => Extended80211Tx::none(r),
             Passed::Got(d) => Extended80211Tx {
-                passed: Passed::Got(d),
+                outcome: d.accepted(),
                 ssid: ssid,
                 bssid: bssid,
                 version: words[0],
@@ -198,35 +199,35 @@ impl Extended80211Tx {
                 packet_duration: words[2],
                 retrans_duration: words[3],
                 channel: words[4],
-                speed: speed,
-                power: power,
+                speed: rate.value,
+                power: level.value,
             },
         }
     }
 }
 
 // Format 1016: an aggregation: how many PDUs follow.
+#[repr(C)]
 pub struct Extended80211Aggregation {
-    pub passed: Passed,
+    pub outcome: Outcome,
     pub pdu_count: u32,
 }
 
 impl Extended80211Aggregation {
-    pub fn parse(c: Cursor, s: &[u8]) -> Extended80211Aggregation
-        requires { ⌜ Inside (now s) c ⌝ }
-        ensures { λ r. ⌜ Reads (layout-of 2 1016) (now (s .entry)) c (r .passed) (extended-80211-aggregation r) ⌝ }
+    pub fn parse(p: Passed, s: &[u8]) -> Extended80211Aggregation
+        requires { ⌜ Within (now s) p ⌝ }
+        ensures { λ r. ⌜ Answers (layout-of 2 1016) (now (s .entry)) p (r .outcome) (extended-80211-aggregation r) ⌝ }
     {
-        let count = next::word(Passed::Got(c), s);
+        let count = next::word(p, s);
         let passed = count.passed;
-        let pdu_count = count.value;
         match passed {
             Passed::Stop(r) => Extended80211Aggregation {
-                passed: Passed::Stop(r),
+                outcome: r,
                 pdu_count: 0,
             },
             Passed::Got(d) => Extended80211Aggregation {
-                passed: Passed::Got(d),
-                pdu_count: pdu_count,
+                outcome: d.accepted(),
+                pdu_count: count.value,
             },
         }
     }

@@ -4,7 +4,7 @@ ghost use mathlib.Core.Path.{_≡_};
 ghost use lib.IntN.{natAbs};
 use libc::STDOUT_FILENO;
 use xdr::Cursor;
-use xdr::Refusal;
+use xdr::Outcome;
 
 pub fn octet(b: u8) -> usize
     ensures { λ r. ⌜ r < 256 ⌝ }
@@ -51,7 +51,7 @@ pub fn stands(c: Cursor) {
 }
 
 // The end of a line: why nothing was read.
-pub fn refusal(r: Refusal) {
+pub fn refusal(r: Outcome) {
     out::number(b" code=", r.code as u64);
     out::number(b" at=", r.at as u64);
     out::number(b" steps=", r.steps as u64);

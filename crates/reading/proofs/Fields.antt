@@ -150,6 +150,9 @@ module _ (l : List Field) (s : List ℕ) (p : Place) where
   unfolding reading valued
   halts-shown e = sym (rw (alone-is, e))
 
+  pub alone-halts : {c a n : ℕ} → fields-out l s p ≡ stop c a n → follow (alone l) s p ≡ stop c a n
+  alone-halts e = alone-is ∙ rw e
+
   pub shown-reads : {vs ws : List Value} {q : Place} → record { out = got (values vs) q; values = ws } ≡ reading l s p → fields-out l s p ≡ got vs q
   unfolding reading valued
   shown-reads {vs} {ws} {q} h = go (fields-out l s p) (h ∙ rw alone-is)

@@ -1,6 +1,7 @@
 -- The first pass over samples: a law for each way out of its functions, with the facts that the code has there. Assumes nothing.
 use Prim.Native.Nat.{ℕ, _+_, _≤_}
 use mathlib.Core.Path.{_≡_, refl, sym, ap, _∙_}
+use mathlib.Core.Bool.{true}
 use mathlib.Core.List.{List, []}
 use native.Mathlib.Omega.{arith}
 use borrow.Author.Needs.{needs}
@@ -10,20 +11,24 @@ use Rattle.reading.specs.Script.{Value, Script, give, repeat}
 use Rattle.reading.specs.Cursor.{Out, got, times, follow}
 use Rattle.reading.specs.Layout.{Field, fields, last-number, opened, framed, counter, samples, sample}
 use Rattle.reading.specs.Answer.{layout-of}
+use Rattle.reading.proofs.Faults.{fair}
+use Rattle.reading.proofs.Codes.{fair-layout}
 use Rattle.reading.proofs.Counts.{counted, counted-none, resumed, frame-at, frame-stop, frame-held, fields-stop, each-held}
 use Rattle.reading.proofs.Room.{thrifty-counter, thrifty-sample}
 use Rattle.xdr.specs.declared.Cursor.{Cursor}
-use Rattle.xdr.specs.declared.Refusal.{Refusal}
+use Rattle.xdr.specs.declared.Outcome.{Outcome}
 use Rattle.xdr.specs.declared.Span.{Span}
 use Rattle.xdr.specs.declared.Passed.{Passed}
 use Rattle.xdr.specs.declared.Passed.the-variants as passed
-use Rattle.xdr.specs.Shown.{place, Inside, Reads, refusal}
+use Rattle.xdr.specs.Shown.{place, Inside, Reads, Answers, passed-of, refusal}
+use Rattle.xdr.proofs.Ends.{reads-on}
 use Rattle.xdr.proofs.Rows.{shown-row, shown-halt, reads-inside, row-forward}
 use Rattle.flows.specs.declared.frames.Frame.{Frame}
 use Rattle.flows.specs.declared.frames.Frame.the-variants as frame
 use Rattle.flows.specs.declared.frames.Scanned.{Scanned}
 use Rattle.flows.specs.declared.frames.Scanned.the-variants as scanned
 use Rattle.flows.specs.Scanned.{Scan, frame-out, scanned-out}
+use Rattle.flows.proofs.Chain.{within-start}
 use Rattle.flows.proofs.Scan.{scan-inside, Thrift, scan-on, scan-done, scan-turn, scan-stop, frame-fits, frame-part, frame-counts, frame-scan}
 use Rattle.samples.specs.Held.{Counted, on, over, rest-of}
 
@@ -35,12 +40,12 @@ sample-thrift limit = record { is = thrifty-sample limit }
 
 -- ---- a frame of any kind
 module _ (kind depth : ℕ) (body : ℕ → Script) (s : List ℕ) (c : Cursor) (k : ℕ) {r : Frame} (e : frame-out r ≡ frame-at s (place c)) where
-  pub held-cut : {x : Refusal} → r ≡ frame.Stop x → refusal x ≡ counted k (follow (framed kind depth body) s (place c))
+  pub held-cut : {x : Outcome} → r ≡ frame.Stop x → refusal x ≡ counted k (follow (framed kind depth body) s (place c))
   held-cut h = frame-stop kind depth body s (place c) k (rw h at e)
 
   module _ {f : ℕ} {x : Span} {d : Cursor} (h : r ≡ frame.Got f x d) {m : Scanned}
       (i : scanned-out m ≡ counted (k + 1) (follow (body f) (take (x .start + x .count) s) (place (record { at = x .start; steps = d .steps })))) where
-    pub held-stop : {y : Refusal} → m ≡ scanned.Stop y → refusal y ≡ counted k (follow (framed kind depth body) s (place c))
+    pub held-stop : {y : Outcome} → m ≡ scanned.Stop y → refusal y ≡ counted k (follow (framed kind depth body) s (place c))
     unfolding resumed
     held-stop {y} w = sym (frame-held kind depth body s (place c) k (rw h at e) ∙ ap (resumed (d .at)) (sym (rw w at i)))
 
@@ -56,7 +61,7 @@ counter-got {f = f} {x} {d} s c k e h =
 
 -- ---- what stands behind the fields
 module _ (body : Script) (s : List ℕ) (n k : ℕ) where
-  pub behind-cut : {p : Passed} {x : Refusal} → p ≡ passed.Stop x → refusal x ≡ rest-of body s p n k
+  pub behind-cut : {p : Passed} {x : Outcome} → p ≡ passed.Stop x → refusal x ≡ rest-of body s p n k
   unfolding rest-of
   behind-cut h = rw h
 
@@ -71,8 +76,8 @@ counted-scan {s} {p} {k} {d} g h = go (rw h at g)
     go (on i) = i
 
 -- the fields were read or refused inside
-pub fields-counted : {vs : List Value} {p : Passed} (l : List Field) (s : List ℕ) (c : Cursor) (k : ℕ) → Reads l s c p vs → Scan s c k → Counted s p k
-fields-counted {vs} {p} l s c k e g = go p e
+pub fields-counted : {vs : List Value} {o : Outcome} {p : Passed} {l : List Field} {s : List ℕ} {c : Cursor} {k : ℕ} → Answers l s (passed.Got c) o vs → p ≡ passed-of o → fair l ≡ true → Scan s c k → Counted s p k
+fields-counted {vs} {p = p} {l} {s} {c} {k} a h z g = go p (reads-on a h z)
   where
     go : (p : Passed) → Reads l s c p vs → Counted s p k
     go (passed.Got d) e =
@@ -88,10 +93,10 @@ module _ (f : ℕ) (body : Script) (s : List ℕ) (c : Cursor) (k : ℕ) where
   each l (passed.Got d) e = sym (each-held l s (place c) k body (shown-row s c l e refl .gives))
   each l (passed.Stop x) e = fields-stop l s (place c) k _ (shown-halt s c l e refl .stops)
 
-  pub sample-arm : {n m : ℕ} {p : Passed} {vs : List Value} {o : Out ℕ} → Reads (layout-of 1 f) s c p vs → m ≡ f → last-number vs ≡ n → o ≡ rest-of body s p n k
+  pub sample-arm : {n m : ℕ} {x : Outcome} {p : Passed} {vs : List Value} {o : Out ℕ} → Answers (layout-of 1 f) s (passed.Got c) x vs → p ≡ passed-of x → m ≡ f → last-number vs ≡ n → o ≡ rest-of body s p n k
       → opened (samples 8) f ≡ fields (layout-of 1 f) (λ us. repeat (last-number us) body (λ a. give a)) → o ≡ counted k (follow (opened (samples 8) m) s (place c))
-  sample-arm {p = p} e h z q r =
-      q ∙ ap (λ (n : ℕ). rest-of body s p n k) (sym z) ∙ each (layout-of 1 f) p e
+  sample-arm {p = p} a i h z q r =
+      q ∙ ap (λ (n : ℕ). rest-of body s p n k) (sym z) ∙ each (layout-of 1 f) p (reads-on a i (fair-layout 1 f))
       ∙ ap (λ (x : Script). counted k (follow x s (place c))) (sym r ∙ ap (opened (samples 8)) (sym h))
 
 pub sample-raw : (s : List ℕ) (c : Cursor) (f k : ℕ) → (f ≡ 1 → ⊥) → (f ≡ 2 → ⊥) → (f ≡ 3 → ⊥) → (f ≡ 4 → ⊥) → (f ≡ 5 → ⊥) → got k (place c) ≡ counted k (follow (opened (samples 8) f) s (place c))
@@ -118,5 +123,6 @@ pub ruleset sampling = (
   behind-got,
   counted-scan,
   fields-counted,
+  within-start,
   needs,
 )

@@ -5,7 +5,7 @@ use Rattle.reading.specs.Script.{Script}
 use Rattle.reading.specs.Cursor.{Out, times, follow}
 use Rattle.reading.proofs.Counts.{counted}
 use Rattle.xdr.specs.declared.Cursor.{Cursor}
-use Rattle.xdr.specs.declared.Refusal.{Refusal}
+use Rattle.xdr.specs.declared.Outcome.{Outcome}
 use Rattle.xdr.specs.declared.Passed.{Passed}
 use Rattle.xdr.specs.declared.Passed.the-variants as passed
 use Rattle.xdr.specs.Shown.{place, refusal}
@@ -14,7 +14,7 @@ use Rattle.flows.specs.Scanned.{Scan}
 -- an outcome from which records can be counted on
 pub data Counted (s : List ℕ) : Passed → ℕ → Type 0 where
   on : {c : Cursor} {k : ℕ} → Scan s c k → Counted s (passed.Got c) k
-  over : {x : Refusal} {k : ℕ} → Counted s (passed.Stop x) k
+  over : {x : Outcome} {k : ℕ} → Counted s (passed.Stop x) k
 
 -- n of `body` from where the fields ended, on top of k descriptors; or the fields' refusal
 unfoldable pub rest-of : Script → List ℕ → Passed → (n k : ℕ) → Out ℕ

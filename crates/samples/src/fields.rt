@@ -3,30 +3,33 @@ ghost use mathlib.Core.Path.{_≡_};
 ghost use Rattle.reading.specs.Layout.{words};
 ghost use Rattle.reading.specs.Values.{zeros};
 ghost use Rattle.reading.specs.Answer.{layout-of};
-ghost use Rattle.xdr.specs.Shown.{Inside, Reads};
+ghost use Rattle.xdr.specs.Shown.{Answers};
+ghost use Rattle.flows.specs.Chain.{Within};
 ghost use Rattle.samples.specs.Shown.{flow-sample, counters-sample, flow-sample-expanded, counters-sample-expanded, discarded-packet};
 use flows::next;
 use numbers::DataSource;
 use numbers::Interface;
-use xdr::Cursor;
+use xdr::Outcome;
 use xdr::Passed;
-use xdr::Refusal;
 
 // A source whose type and index have a word each.
+#[repr(C)]
 pub struct DataSourceExpanded {
     pub source_id_type: u32,
     pub source_id_index: u32,
 }
 
 // An interface whose format and value have a word each.
+#[repr(C)]
 pub struct InterfaceExpanded {
     pub format: u32,
     pub value: u32,
 }
 
 // Format 1: packets sampled from a source.
+#[repr(C)]
 pub struct FlowSample {
-    pub passed: Passed,
+    pub outcome: Outcome,
     pub sequence_number: u32,
     pub source_id: DataSource,
     pub sampling_rate: u32,
@@ -38,16 +41,16 @@ pub struct FlowSample {
 }
 
 impl FlowSample {
-    pub fn parse(c: Cursor, s: &[u8]) -> FlowSample
-        requires { ⌜ Inside (now s) c ⌝ }
-        ensures { λ r. ⌜ Reads (layout-of 1 1) (now (s .entry)) c (r .passed) (flow-sample r) ⌝ }
+    pub fn parse(p: Passed, s: &[u8]) -> FlowSample
+        requires { ⌜ Within (now s) p ⌝ }
+        ensures { λ r. ⌜ Answers (layout-of 1 1) (now (s .entry)) p (r .outcome) (flow-sample r) ⌝ }
     {
-        let row = next::words(Passed::Got(c), s, 8);
+        let row = next::words(p, s, 8);
         let passed = row.passed;
         let words = row.words;
         match passed {
             Passed::Stop(r) => FlowSample {
-                passed: Passed::Stop(r),
+                outcome: r,
                 sequence_number: 0,
                 source_id: DataSource(0),
                 sampling_rate: 0,
@@ -58,7 +61,7 @@ impl FlowSample {
                 num_records: 0,
             },
             Passed::Got(d) => FlowSample {
-                passed: Passed::Got(d),
+                outcome: d.accepted(),
                 sequence_number: words[0],
                 source_id: DataSource(words[1]),
                 sampling_rate: words[2],
@@ -73,30 +76,31 @@ impl FlowSample {
 }
 
 // Format 2: counters of a source.
+#[repr(C)]
 pub struct CountersSample {
-    pub passed: Passed,
+    pub outcome: Outcome,
     pub sequence_number: u32,
     pub source_id: DataSource,
     pub num_records: u32,
 }
 
 impl CountersSample {
-    pub fn parse(c: Cursor, s: &[u8]) -> CountersSample
-        requires { ⌜ Inside (now s) c ⌝ }
-        ensures { λ r. ⌜ Reads (layout-of 1 2) (now (s .entry)) c (r .passed) (counters-sample r) ⌝ }
+    pub fn parse(p: Passed, s: &[u8]) -> CountersSample
+        requires { ⌜ Within (now s) p ⌝ }
+        ensures { λ r. ⌜ Answers (layout-of 1 2) (now (s .entry)) p (r .outcome) (counters-sample r) ⌝ }
     {
-        let row = next::words(Passed::Got(c), s, 3);
+        let row = next::words(p, s, 3);
         let passed = row.passed;
         let words = row.words;
         match passed {
             Passed::Stop(r) => CountersSample {
-                passed: Passed::Stop(r),
+                outcome: r,
                 sequence_number: 0,
                 source_id: DataSource(0),
                 num_records: 0,
             },
             Passed::Got(d) => CountersSample {
-                passed: Passed::Got(d),
+                outcome: d.accepted(),
                 sequence_number: words[0],
                 source_id: DataSource(words[1]),
                 num_records: words[2],
@@ -106,8 +110,9 @@ impl CountersSample {
 }
 
 // Format 3: as format 1, with two words each for the source and the interfaces.
+#[repr(C)]
 pub struct FlowSampleExpanded {
-    pub passed: Passed,
+    pub outcome: Outcome,
     pub sequence_number: u32,
     pub source_id: DataSourceExpanded,
     pub sampling_rate: u32,
@@ -119,11 +124,11 @@ pub struct FlowSampleExpanded {
 }
 
 impl FlowSampleExpanded {
-    fn none(r: Refusal) -> FlowSampleExpanded
-        ensures { λ a. ⌜ (a .passed ≡ Passed.Stop r) × (flow-sample-expanded a ≡ zeros (words 11)) ⌝ }
+    fn none(r: Outcome) -> FlowSampleExpanded
+        ensures { λ a. ⌜ (a .outcome ≡ r) × (flow-sample-expanded a ≡ zeros (words 11)) ⌝ }
     {
         FlowSampleExpanded {
-            passed: Passed::Stop(r),
+            outcome: r,
             sequence_number: 0,
             source_id: DataSourceExpanded {
                 source_id_type: 0,
@@ -144,11 +149,11 @@ impl FlowSampleExpanded {
         }
     }
 
-    pub fn parse(c: Cursor, s: &[u8]) -> FlowSampleExpanded
-        requires { ⌜ Inside (now s) c ⌝ }
-        ensures { λ r. ⌜ Reads (layout-of 1 3) (now (s .entry)) c (r .passed) (flow-sample-expanded r) ⌝ }
+    pub fn parse(p: Passed, s: &[u8]) -> FlowSampleExpanded
+        requires { ⌜ Within (now s) p ⌝ }
+        ensures { λ r. ⌜ Answers (layout-of 1 3) (now (s .entry)) p (r .outcome) (flow-sample-expanded r) ⌝ }
     {
-        let row = next::words(Passed::Got(c), s, 8);
+        let row = next::words(p, s, 8);
         let passed = row.passed;
         let first = row.words;
         let row = next::words(passed, s, 3);
@@ -157,7 +162,7 @@ impl FlowSampleExpanded {
         match passed {
             Passed::Stop(r) => FlowSampleExpanded::none(r),
             Passed::Got(d) => FlowSampleExpanded {
-                passed: Passed::Got(d),
+                outcome: d.accepted(),
                 sequence_number: first[0],
                 source_id: DataSourceExpanded {
                     source_id_type: first[1],
@@ -181,24 +186,25 @@ impl FlowSampleExpanded {
 }
 
 // Format 4: as format 2, with two words for the source.
+#[repr(C)]
 pub struct CountersSampleExpanded {
-    pub passed: Passed,
+    pub outcome: Outcome,
     pub sequence_number: u32,
     pub source_id: DataSourceExpanded,
     pub num_records: u32,
 }
 
 impl CountersSampleExpanded {
-    pub fn parse(c: Cursor, s: &[u8]) -> CountersSampleExpanded
-        requires { ⌜ Inside (now s) c ⌝ }
-        ensures { λ r. ⌜ Reads (layout-of 1 4) (now (s .entry)) c (r .passed) (counters-sample-expanded r) ⌝ }
+    pub fn parse(p: Passed, s: &[u8]) -> CountersSampleExpanded
+        requires { ⌜ Within (now s) p ⌝ }
+        ensures { λ r. ⌜ Answers (layout-of 1 4) (now (s .entry)) p (r .outcome) (counters-sample-expanded r) ⌝ }
     {
-        let row = next::words(Passed::Got(c), s, 4);
+        let row = next::words(p, s, 4);
         let passed = row.passed;
         let words = row.words;
         match passed {
             Passed::Stop(r) => CountersSampleExpanded {
-                passed: Passed::Stop(r),
+                outcome: r,
                 sequence_number: 0,
                 source_id: DataSourceExpanded {
                     source_id_type: 0,
@@ -207,7 +213,7 @@ impl CountersSampleExpanded {
                 num_records: 0,
             },
             Passed::Got(d) => CountersSampleExpanded {
-                passed: Passed::Got(d),
+                outcome: d.accepted(),
                 sequence_number: words[0],
                 source_id: DataSourceExpanded {
                     source_id_type: words[1],
@@ -220,8 +226,9 @@ impl CountersSampleExpanded {
 }
 
 // Format 5: packets that were discarded. Its interfaces are plain indices, as the crate has them.
+#[repr(C)]
 pub struct DiscardedPacket {
-    pub passed: Passed,
+    pub outcome: Outcome,
     pub sequence_number: u32,
     pub source_id: DataSourceExpanded,
     pub drops: u32,
@@ -232,16 +239,16 @@ pub struct DiscardedPacket {
 }
 
 impl DiscardedPacket {
-    pub fn parse(c: Cursor, s: &[u8]) -> DiscardedPacket
-        requires { ⌜ Inside (now s) c ⌝ }
-        ensures { λ r. ⌜ Reads (layout-of 1 5) (now (s .entry)) c (r .passed) (discarded-packet r) ⌝ }
+    pub fn parse(p: Passed, s: &[u8]) -> DiscardedPacket
+        requires { ⌜ Within (now s) p ⌝ }
+        ensures { λ r. ⌜ Answers (layout-of 1 5) (now (s .entry)) p (r .outcome) (discarded-packet r) ⌝ }
     {
-        let row = next::words(Passed::Got(c), s, 8);
+        let row = next::words(p, s, 8);
         let passed = row.passed;
         let words = row.words;
         match passed {
             Passed::Stop(r) => DiscardedPacket {
-                passed: Passed::Stop(r),
+                outcome: r,
                 sequence_number: 0,
                 source_id: DataSourceExpanded {
                     source_id_type: 0,
@@ -254,7 +261,7 @@ impl DiscardedPacket {
                 num_records: 0,
             },
             Passed::Got(d) => DiscardedPacket {
-                passed: Passed::Got(d),
+                outcome: d.accepted(),
                 sequence_number: words[0],
                 source_id: DataSourceExpanded {
                     source_id_type: words[1],

@@ -79,36 +79,32 @@ fn sample_data(s: &[u8], c: Cursor, format: u32, count: usize) -> Scanned
     requires { ⌜ Scan (now s) c count ⌝ }
     ensures { λ r. ⌜ scanned-out r ≡ counted count (follow (opened (samples 8) format) (now (s .entry)) (place c)) ⌝ }
 {
+    let p = Passed::Got(c);
     match format {
         1 => {
-            let h = FlowSample::parse(c, s);
-            let passed = h.passed;
-            let n = h.num_records;
-            flows_behind(s, passed, n, count)
+            let h = FlowSample::parse(p, s);
+            let outcome = h.outcome;
+            flows_behind(s, outcome.passed(), h.num_records, count)
         }
         2 => {
-            let h = CountersSample::parse(c, s);
-            let passed = h.passed;
-            let n = h.num_records;
-            counters_behind(s, passed, n, count)
+            let h = CountersSample::parse(p, s);
+            let outcome = h.outcome;
+            counters_behind(s, outcome.passed(), h.num_records, count)
         }
         3 => {
-            let h = FlowSampleExpanded::parse(c, s);
-            let passed = h.passed;
-            let n = h.num_records;
-            flows_behind(s, passed, n, count)
+            let h = FlowSampleExpanded::parse(p, s);
+            let outcome = h.outcome;
+            flows_behind(s, outcome.passed(), h.num_records, count)
         }
         4 => {
-            let h = CountersSampleExpanded::parse(c, s);
-            let passed = h.passed;
-            let n = h.num_records;
-            counters_behind(s, passed, n, count)
+            let h = CountersSampleExpanded::parse(p, s);
+            let outcome = h.outcome;
+            counters_behind(s, outcome.passed(), h.num_records, count)
         }
         5 => {
-            let h = DiscardedPacket::parse(c, s);
-            let passed = h.passed;
-            let n = h.num_records;
-            flows_behind(s, passed, n, count)
+            let h = DiscardedPacket::parse(p, s);
+            let outcome = h.outcome;
+            flows_behind(s, outcome.passed(), h.num_records, count)
         }
         _ => Scanned::Got(c, count),
     }

@@ -15,7 +15,7 @@ use Rattle.reading.proofs.Fields.{address-out, field-out, reads-shown, halts-sh
 use Rattle.reading.proofs.Addresses as addresses
 use Rattle.reading.proofs.Addresses.{Typed, is-four, is-sixteen}
 use Rattle.xdr.specs.declared.Cursor.{Cursor}
-use Rattle.xdr.specs.declared.Refusal.{Refusal}
+use Rattle.xdr.specs.declared.Outcome.{Outcome}
 use Rattle.xdr.specs.declared.Passed.{Passed}
 use Rattle.xdr.specs.declared.Passed.the-variants as passed
 use Rattle.xdr.specs.declared.Word.{Word}
@@ -41,7 +41,7 @@ module _ {n : ℕ} (w : Width) (s : List ℕ) (c : Cursor) (size : n ≡ octet-c
   pub block-fits : {d : Cursor} → r ≡ passed.Got d → c .at + octet-count w ≤ length s
   block-fits h = laws.skip-fits s c (octet-count w) (rw size at e) h
 
-  pub block-none : {x : Refusal} → r ≡ passed.Stop x → Is-block w s c (record { passed = passed.Stop x; bytes = replicate 16 0 })
+  pub block-none : {x : Outcome} → r ≡ passed.Stop x → Is-block w s c (record { passed = passed.Stop x; bytes = replicate 16 0 })
   unfolding read-item field-out
   block-none {x} h = record {
     read = record { is = ap (λ (v : Value). record { out = refusal x; values = v ∷ [] }) (blank w .0) ∙ halts-shown (bytes w ∷ []) s (place c) (sole-halts (bytes w) s (place c) (sym (laws.skipped-stop s c (octet-count w) (rw size at e) _ h))) };
@@ -62,7 +62,7 @@ module _ {n : ℕ} (w : Width) (s : List ℕ) (c : Cursor) (size : n ≡ octet-c
 
 -- ---- what follows an address's type word
 module _ {w : Width} (s : List ℕ) (c : Cursor) {b : Block} (t : ℕ) (is : Is-block w s c b) (y : Typed w t) where
-  was-cut : {x : Refusal} → b .passed ≡ passed.Stop x → read-item (block w) s (place c) ≡ refusal x
+  was-cut : {x : Outcome} → b .passed ≡ passed.Stop x → read-item (block w) s (place c) ≡ refusal x
   unfolding field-out
   was-cut g = sole-halted (bytes w) s (place c) (shown-halts (bytes w ∷ []) s (place c) (rw g at (is .read .is)))
 
@@ -70,7 +70,7 @@ module _ {w : Width} (s : List ℕ) (c : Cursor) {b : Block} (t : ℕ) (is : Is-
   unfolding field-out
   was-got g = sole-gave (bytes w) s (place c) (shown-reads (bytes w ∷ []) s (place c) (rw g at (is .read .is)))
 
-  pub bytes-none : {x : Refusal} {a : Addressed} → b .passed ≡ passed.Stop x → a ≡ no-address x → address-shown a ≡ address-valued (address-out t s (place c))
+  pub bytes-none : {x : Outcome} {a : Addressed} → b .passed ≡ passed.Stop x → a ≡ no-address x → address-shown a ≡ address-valued (address-out t s (place c))
   bytes-none h e = rw (e, addresses.bytes-cut s (place c) w t y (sym (was-cut h)))
 
   pub bytes-got : {d : Cursor} → b .passed ≡ passed.Got d
@@ -86,10 +86,10 @@ module _ (s : List ℕ) (c : Cursor) where
   valued-is (stop x a n) e = halts-shown (addr ∷ []) s (place c) (sole-halts addr s (place c) e)
 
   module _ {w : Word} (e : word-out w ≡ read-item word s (place c)) where
-    pub address-cut : {x : Refusal} {a : Addressed} → w ≡ a-word.Stop x → a ≡ no-address x → Reads (addr ∷ []) s c (a .passed) (an-address (a .address) ∷ [])
+    pub address-cut : {x : Outcome} {a : Addressed} → w ≡ a-word.Stop x → a ≡ no-address x → Reads (addr ∷ []) s c (a .passed) (an-address (a .address) ∷ [])
     address-cut h q = rw q (record { is = valued-is _ (addresses.address-cut s (place c) (tested-cut s (place c) _ 4 (rw h at e))) })
 
-    pub address-unknown : {v : ℕ} {d : Cursor} {x : Refusal} {a : Addressed} → w ≡ a-word.Got v d → (v ≡ 0 → ⊥) → (v ≡ 1 → ⊥) → (v ≡ 2 → ⊥)
+    pub address-unknown : {v : ℕ} {d : Cursor} {x : Outcome} {a : Addressed} → w ≡ a-word.Got v d → (v ≡ 0 → ⊥) → (v ≡ 1 → ⊥) → (v ≡ 2 → ⊥)
         → x ≡ refused 4 c → a ≡ no-address x → Reads (addr ∷ []) s c (a .passed) (an-address (a .address) ∷ [])
     address-unknown {v} h i j k r q = rw (q, r) (record { is = valued-is _ (addresses.address-cut s (place c) (tested-refused s (place c) _ 4 (rw h at e) (lt-leb v 2 (omega arith)))) })
 

@@ -19,7 +19,7 @@ use Rattle.reading.proofs.Items.{fixed-read, fixed-as, fixed-stops}
 use Rattle.reading.proofs.Opaques as opaques
 use Rattle.reading.proofs.Words.{words-got, words-stop}
 use Rattle.xdr.specs.declared.Cursor.{Cursor}
-use Rattle.xdr.specs.declared.Refusal.{Refusal}
+use Rattle.xdr.specs.declared.Outcome.{Outcome}
 use Rattle.xdr.specs.declared.Word.{Word}
 use Rattle.xdr.specs.declared.Word.the-variants as a-word
 use Rattle.xdr.specs.declared.Span.{Span}
@@ -32,7 +32,7 @@ use Rattle.xdr.specs.Shown.{place, Inside, refused, behind, span, refusa
 
 -- ---- an item of n bytes
 module _ (s : List ℕ) (c : Cursor) (n : ℕ) where
-  pub skip-stop : {A : Type 0} {r : Refusal} (a : A) → r ≡ refused 2 c → length s - c .at < n → refusal r ≡ fixed n a s (place c)
+  pub skip-stop : {A : Type 0} {r : Outcome} (a : A) → r ≡ refused 2 c → length s - c .at < n → refusal r ≡ fixed n a s (place c)
   unfolding fixed
   skip-stop a e h = rw (e, lt-leb (c .at + n) (length s) (omega arith))
 
@@ -45,7 +45,7 @@ module _ (s : List ℕ) (c : Cursor) (n : ℕ) where
     pub skip-fits : {d : Cursor} → r ≡ passed.Got d → c .at + n ≤ length s
     skip-fits w = fixed-read n nothing s (place c) (rw w at (sym e)) .0
 
-    pub skipped-stop : {A : Type 0} {x : Refusal} (a : A) → r ≡ passed.Stop x → refusal x ≡ fixed n a s (place c)
+    pub skipped-stop : {A : Type 0} {x : Outcome} (a : A) → r ≡ passed.Stop x → refusal x ≡ fixed n a s (place c)
     skipped-stop a w = fixed-stops s (place c) n nothing a (rw w at e)
 
     pub skipped-got : {A : Type 0} {d : Cursor} (a : A) → r ≡ passed.Got d → got a (place d) ≡ fixed n a s (place c)
@@ -53,7 +53,7 @@ module _ (s : List ℕ) (c : Cursor) (n : ℕ) where
 
 -- ---- the items
 module _ (s : List ℕ) (c : Cursor) where
-  pub word-stop : {r : Refusal} → r ≡ refused 2 c → length s - c .at < 4 → refusal r ≡ read-item word s (place c)
+  pub word-stop : {r : Outcome} → r ≡ refused 2 c → length s - c .at < 4 → refusal r ≡ read-item word s (place c)
   unfolding read-item
   word-stop e h = skip-stop s c 4 _ e h
 
@@ -61,7 +61,7 @@ module _ (s : List ℕ) (c : Cursor) where
   unfolding read-item
   word-got e w i h = rw e (skip-got s c 4 _ w i h)
 
-  pub long-stop : {r : Passed} {x : Refusal} → passed-out r nothing ≡ fixed 8 nothing s (place c) → r ≡ passed.Stop x → refusal x ≡ read-item long s (place c)
+  pub long-stop : {r : Passed} {x : Outcome} → passed-out r nothing ≡ fixed 8 nothing s (place c) → r ≡ passed.Stop x → refusal x ≡ read-item long s (place c)
   unfolding read-item
   long-stop e w = skipped-stop s c 8 e _ w
 
@@ -71,7 +71,7 @@ module _ (s : List ℕ) (c : Cursor) where
 
   -- an i32 by the word that it is
   module _ {w : Word} (e : word-out w ≡ read-item word s (place c)) where
-    pub int-stop : {x : Refusal} → w ≡ a-word.Stop x → refusal x ≡ read-item int s (place c)
+    pub int-stop : {x : Outcome} → w ≡ a-word.Stop x → refusal x ≡ read-item int s (place c)
     unfolding read-item
     int-stop h = fixed-stops s (place c) 4 (number (be4 s (c .at))) _ (rw h at e)
 
@@ -100,13 +100,13 @@ module _ (s : List ℕ) (c : Cursor) {w : Word} (e : word-out w ≡ read-item wo
   pub word-within : {v : ℕ} {d : Cursor} → w ≡ a-word.Got v d → Inside s c → d .at ≤ length s
   word-within h i = word-inside h i .inside
 
-  pub opaque-cut : {x : Refusal} → w ≡ a-word.Stop x → refusal x ≡ read-item opaque s (place c)
+  pub opaque-cut : {x : Outcome} → w ≡ a-word.Stop x → refusal x ≡ read-item opaque s (place c)
   opaque-cut h = opaques.opaque-cut s (place c) (rw h at e)
 
-  pub opaque-long : {v : ℕ} {d : Cursor} {r : Refusal} → w ≡ a-word.Got v d → max-opaque < v → r ≡ refused 5 c → refusal r ≡ read-item opaque s (place c)
+  pub opaque-long : {v : ℕ} {d : Cursor} {r : Outcome} → w ≡ a-word.Got v d → max-opaque < v → r ≡ refused 5 c → refusal r ≡ read-item opaque s (place c)
   opaque-long h l r = rw r (opaques.opaque-long s (place c) (is-word h) l)
 
-  pub opaque-short : {v : ℕ} {d : Cursor} {r : Refusal} → w ≡ a-word.Got v d → v ≤ max-opaque → length s - d .at < padded v → r ≡ refused 2 c → refusal r ≡ read-item opaque s (place c)
+  pub opaque-short : {v : ℕ} {d : Cursor} {r : Outcome} → w ≡ a-word.Got v d → v ≤ max-opaque → length s - d .at < padded v → r ≡ refused 2 c → refusal r ≡ read-item opaque s (place c)
   opaque-short h l t r = rw r (opaques.opaque-short s (place c) (is-word h) l t)
 
   pub opaque-got : {v : ℕ} {d : Cursor} → w ≡ a-word.Got v d → v ≤ max-opaque → padded v ≤ length s - d .at → got (part (record { start = d .at; count = v })) (record { at = d .at + padded v; steps = d .steps }) ≡ read-item opaque s (place c)
@@ -114,7 +114,7 @@ module _ (s : List ℕ) (c : Cursor) {w : Word} (e : word-out w ≡ read-item wo
 
 -- ---- a string by its opaque
 module _ (s : List ℕ) (c : Cursor) {o : Part} (e : part-out o ≡ read-item opaque s (place c)) where
-  pub string-cut : {x : Refusal} → o ≡ a-part.Stop x → refusal x ≡ read-item string s (place c)
+  pub string-cut : {x : Outcome} → o ≡ a-part.Stop x → refusal x ≡ read-item string s (place c)
   string-cut h = opaques.string-cut s (place c) (rw h at e)
 
   module _ {x : Span} {d : Cursor} (h : o ≡ a-part.Got x d) where
@@ -131,7 +131,7 @@ module _ (s : List ℕ) (c : Cursor) {o : Part} (e : part-out o ≡ read-item op
     pub string-got : {b : Bool} {end : ℕ} → end ≡ x .start + x .count → b ≡ utf8 (take (end - x .start) (drop (x .start) s)) → b ≡ true → got (part (span x)) (place d) ≡ read-item string s (place c)
     string-got {end = end} z u t = opaques.string-got s (place c) (rw h at e) (judged end z u ∙ t)
 
-    pub string-bad : {b : Bool} {end : ℕ} {r : Refusal} → end ≡ x .start + x .count → b ≡ utf8 (take (end - x .start) (drop (x .start) s)) → b ≡ false → r ≡ refused 7 c → refusal r ≡ read-item string s (place c)
+    pub string-bad : {b : Bool} {end : ℕ} {r : Outcome} → end ≡ x .start + x .count → b ≡ utf8 (take (end - x .start) (drop (x .start) s)) → b ≡ false → r ≡ refused 7 c → refusal r ≡ read-item string s (place c)
     string-bad {end = end} z u t r = rw r (opaques.string-refused s (place c) (rw h at e) (judged end z u ∙ t))
 
 pub ruleset items = (skip-stop, skip-got, skip-fits, word-stop, word-got, long-stop, long-got, int-stop, int-got, run-stop, run-got, word-inside, word-within, opaque-cut, opaque-long, opaque-short, opaque-got, string-cut, string-fits, string-end, string-got, string-bad, needs)

@@ -4,3 +4,4 @@ pub mod Laws
 pub mod Fixed
 pub mod Rows
 pub mod Signed
+pub mod Ends

@@ -12,7 +12,7 @@ use Rattle.reading.proofs.Fields.{field-out, fields-out, fields-then, sole-give
 use Rattle.reading.proofs.Bounds.{Owes, owes}
 use Rattle.reading.proofs.Words.{numbers, run-row}
 use Rattle.xdr.specs.declared.Cursor.{Cursor}
-use Rattle.xdr.specs.declared.Refusal.{Refusal}
+use Rattle.xdr.specs.declared.Outcome.{Outcome}
 use Rattle.xdr.specs.declared.Passed.{Passed}
 use Rattle.xdr.specs.declared.Passed.the-variants as passed
 use Rattle.xdr.specs.declared.Word.{Word}
@@ -24,7 +24,7 @@ use Rattle.xdr.proofs.Inside.{after-script}
 pub record Row (l : List Field) (s : List ℕ) (c : Cursor) (vs : List Value) (d : Cursor) : Type 0 where
   pub gives : fields-out l s (place c) ≡ got vs (place d)
 
-pub record Halt (l : List Field) (s : List ℕ) (c : Cursor) (x : Refusal) : Type 0 where
+pub record Halt (l : List Field) (s : List ℕ) (c : Cursor) (x : Outcome) : Type 0 where
   pub stops : fields-out l s (place c) ≡ refusal x
 
 module _ (l : List Field) (s : List ℕ) (c : Cursor) where
@@ -48,7 +48,7 @@ module _ (s : List ℕ) (c : Cursor) where
   pub shown-row : {p : Passed} {vs : List Value} {d : Cursor} (l : List Field) → Reads l s c p vs → p ≡ passed.Got d → Row l s c vs d
   shown-row l e h = record { gives = shown-reads l s (place c) (rw h at (e .is)) }
 
-  pub shown-halt : {p : Passed} {vs : List Value} {x : Refusal} (l : List Field) → Reads l s c p vs → p ≡ passed.Stop x → Halt l s c x
+  pub shown-halt : {p : Passed} {vs : List Value} {x : Outcome} (l : List Field) → Reads l s c p vs → p ≡ passed.Stop x → Halt l s c x
   shown-halt l e h = record { stops = shown-halts l s (place c) (rw h at (e .is)) }
 
 module _ (s : List ℕ) (c : Cursor) {w : Word} (f : word-out w ≡ read-item word s (place c)) where

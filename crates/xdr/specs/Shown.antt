@@ -1,16 +1,19 @@
 -- What this crate's cursor and answers are in terms of the reading. Assumes nothing.
 use Prim.Native.Nat.{ℕ, zero, suc, _+_, _-_, _≤_}
 use mathlib.Core.Path.{_≡_}
+use mathlib.Core.Bool.{cond}
 use mathlib.Core.List.{List, [], _∷_}
+use lib.Dec.{eqb}
 use lib.ListN.{length, take, drop, getD, replicate}
 use Rattle.reading.specs.Script as script
 use Rattle.reading.specs.Script.{octet-count, Value, number, integer, octets, address, bare}
 use Rattle.reading.specs.Cursor.{Place, Out, got, stop}
 use Rattle.reading.specs.Layout.{Field, bytes}
-use Rattle.reading.specs.Values.{Reading, reading}
+use Rattle.reading.specs.Values.{Reading, valued, reading}
+use Rattle.reading.specs.Answer.{Fields, answered}
 use Rattle.xdr.specs.declared.Cursor.{Cursor}
 use Rattle.xdr.specs.declared.Span.{Span}
-use Rattle.xdr.specs.declared.Refusal.{Refusal}
+use Rattle.xdr.specs.declared.Outcome.{Outcome}
 use Rattle.xdr.specs.declared.Word.{Word}
 use Rattle.xdr.specs.declared.Word.the-variants as word
 use Rattle.xdr.specs.declared.Long.{Long}
@@ -35,8 +38,15 @@ pub record Inside (s : List ℕ) (c : Cursor) : Type 0 where
   pub inside : c .at ≤ length s
   pub counted : c .steps ≤ c .at
 
-abbrev pub refused : ℕ → Cursor → Refusal
+abbrev pub refused : ℕ → Cursor → Outcome
 refused code c = record { code = code; at = c .at; steps = c .steps }
+
+abbrev pub accepted : Cursor → Outcome
+accepted c = record { code = 0; at = c .at; steps = c .steps }
+
+-- what is read on from
+abbrev pub passed-of : Outcome → Passed
+passed-of o = cond (eqb (o .code) 0) (passed.Got (record { at = o .at; steps = o .steps })) (passed.Stop o)
 
 abbrev pub behind : ℕ → Cursor → Cursor
 behind n c = record { at = c .at + n; steps = c .steps + 1 }
@@ -44,7 +54,7 @@ behind n c = record { at = c .at + n; steps = c .steps + 1 }
 abbrev pub span : Span → script.Span
 span x = record { start = x .start; count = x .count }
 
-abbrev pub refusal : {A : Type 0} → Refusal → Out A
+abbrev pub refusal : {A : Type 0} → Outcome → Out A
 refusal r = stop (r .code) (r .at) (r .steps)
 
 abbrev pub word-out : Word → Out Value
@@ -90,6 +100,19 @@ octets-at (suc n) s at rest = getD s at 0 ∷ window n s at 1 rest
 pub record Reads (l : List Field) (s : List ℕ) (c : Cursor) (p : Passed) (vs : List Value) : Type 0 where
   pub is : shown p vs ≡ reading l s (place c)
 
+-- the layout l, read on from p: a refusal is handed on
+abbrev pub read-on : List Field → List ℕ → Passed → Reading
+read-on l s (passed.Got c) = reading l s (place c)
+read-on l s (passed.Stop x) = valued l (refusal x)
+
+-- an outcome with values beside it, as field reading answers them
+abbrev pub answer-of : Outcome → List Value → Fields
+answer-of o vs = record { code = o .code; at = o .at; steps = o .steps; values = vs }
+
+-- the layout l, read on from p, answers so
+pub record Answers (l : List Field) (s : List ℕ) (p : Passed) (o : Outcome) (vs : List Value) : Type 0 where
+  pub is : answer-of o vs ≡ answered (read-on l s p)
+
 -- a block of this width, read at the cursor; behind its bytes all is zero
 pub record Is-block (w : script.Width) (s : List ℕ) (c : Cursor) (r : Block) : Type 0 where
   pub read : Reads (bytes w ∷ []) s c (r .passed) (octets (take (octet-count w) (r .bytes)) ∷ [])
@@ -107,5 +130,5 @@ address-valued (got v q) = record { out = got (record { values = v ∷ []; range
 address-valued (stop c a n) = record { out = stop c a n; values = address 0 (replicate 16 0) ∷ [] }
 
 -- a refusal, with an address of all zero
-abbrev pub no-address : Refusal → Addressed
+abbrev pub no-address : Outcome → Addressed
 no-address r = record { passed = passed.Stop r; address = record { kind = 0; bytes = replicate 16 0 } }

@@ -8,13 +8,13 @@ ghost use Rattle.xdr.specs.Shown.{Inside, Reads, place, width, an-addres
 use crate::Address;
 use crate::Addressed;
 use crate::Cursor;
+use crate::Outcome;
 use crate::Passed;
-use crate::Refusal;
 use crate::Width;
 use crate::Word;
 
 // What a refused address answers.
-fn refused_address(r: Refusal) -> Addressed
+fn refused_address(r: Outcome) -> Addressed
     ensures { λ a. ⌜ a ≡ no-address r ⌝ }
 {
     Addressed {

@@ -1,7 +1,7 @@
 // The items of RFC 4506 that an sFlow datagram is made of, read by a cursor that is handed over and handed back with each item.
 ghost use mathlib.Core.Path.{_≡_};
 ghost use Prim.Native.Nat.{_+_, _^_, _≤_, _<_};
-ghost use Rattle.xdr.specs.Shown.{refused, behind};
+ghost use Rattle.xdr.specs.Shown.{refused, accepted, behind, passed-of};
 
 mod addresses;
 mod blocks;
@@ -16,14 +16,16 @@ pub struct Cursor {
     pub steps: usize,
 }
 
-// Why a reading stops: document 01's code, the position, and the items read before it.
-pub struct Refusal {
+// How a reading ends: document 01's code, the position, and the items read. Code 0 is no refusal.
+#[repr(C)]
+pub struct Outcome {
     pub code: u32,
     pub at: usize,
     pub steps: usize,
 }
 
 // A range of the input.
+#[repr(C)]
 pub struct Span {
     pub start: usize,
     pub count: usize,
@@ -32,29 +34,29 @@ pub struct Span {
 // A u32 with the cursor behind it, or a refusal; the other items answer likewise.
 pub enum Word {
     Got(u32, Cursor),
-    Stop(Refusal),
+    Stop(Outcome),
 }
 
 pub enum Long {
     Got(u64, Cursor),
-    Stop(Refusal),
+    Stop(Outcome),
 }
 
 pub enum Int {
     Got(i32, Cursor),
-    Stop(Refusal),
+    Stop(Outcome),
 }
 
 // Where an opaque or a string has its bytes.
 pub enum Part {
     Got(Span, Cursor),
-    Stop(Refusal),
+    Stop(Outcome),
 }
 
 // What was read is passed, and its value is not in the answer.
 pub enum Passed {
     Got(Cursor),
-    Stop(Refusal),
+    Stop(Outcome),
 }
 
 // How many bytes a fixed block has.
@@ -72,6 +74,7 @@ pub struct Block {
 }
 
 // An address: its type, and sixteen bytes of which type 1 uses the first four; unused ones are zero.
+#[repr(C)]
 pub struct Address {
     pub kind: u32,
     pub bytes: [u8; 16],
@@ -85,11 +88,22 @@ pub struct Addressed {
 
 impl Cursor {
     // The refusal of the item at the cursor.
-    pub fn refusal(self, code: u32) -> Refusal
+    pub fn refusal(self, code: u32) -> Outcome
         ensures { λ r. ⌜ r ≡ refused code self ⌝ }
     {
-        Refusal {
+        Outcome {
             code: code,
+            at: self.at,
+            steps: self.steps,
+        }
+    }
+
+    // All is read up to the cursor.
+    pub fn accepted(self) -> Outcome
+        ensures { λ r. ⌜ r ≡ accepted self ⌝ }
+    {
+        Outcome {
+            code: 0,
             at: self.at,
             steps: self.steps,
         }
@@ -104,5 +118,20 @@ impl Cursor {
             at: self.at + n,
             steps: self.steps + 1,
         }
+    }
+}
+
+impl Outcome {
+    // What is read on from.
+    pub fn passed(self) -> Passed
+        ensures { λ r. ⌜ r ≡ passed-of self ⌝ }
+    {
+        if self.code == 0 {
+            return Passed::Got(Cursor {
+                at: self.at,
+                steps: self.steps,
+            });
+        }
+        Passed::Stop(self)
     }
 }

@@ -8,8 +8,8 @@ ghost use Rattle.xdr.specs.Shown.{Inside, place, word-out, long-out, int
 use crate::Cursor;
 use crate::Int;
 use crate::Long;
+use crate::Outcome;
 use crate::Passed;
-use crate::Refusal;
 use crate::Word;
 use crate::load;
 
@@ -70,7 +70,7 @@ impl Cursor {
         let count = n as usize;
         let there = (s.len() - at) / 4;
         if there < count {
-            return Passed::Stop(Refusal {
+            return Passed::Stop(Outcome {
                 code: 2,
                 at: at + 4 * there,
                 steps: steps + there,

@@ -6,7 +6,8 @@ use Rattle.datagram.proofs.one.judge.Tie as tie
 pub judge-spec : {M : Type 1} → statement M
 unfolding layout-of
 judge-spec = tie.close (tie.spec
-    (λ c κs. search judging)  -- parse-requires one.rt:46:9
-    (λ c κs. search judging)  -- samples-behind-requires one.rt:50:18
-    (λ c. search judging)  -- returns one.rt:42:1
+    (λ c κs. search judging)  -- parse-requires
+    (λ c κs. search judging)  -- passed-requires
+    (λ c κs. search judging)  -- samples-behind-requires
+    (λ c. search judging)  -- returns
     )

@@ -8,15 +8,16 @@ unfolding layout-of
 put-datagram-spec =
     tie.close
     (tie.spec
-    (λ c κs. search judging)  -- parse-requires one.rt:61:9
-    (λ c. search judging)  -- enum-told one.rt:65:28
-    (λ c. search judging)  -- enum-known-passed one.rt:66:21
-    (λ c κs. search judging)  -- put-samples-requires one.rt:67:17
-    (λ c. search judging)  -- cast-t19 one.rt:85:28
-    (λ c. search judging)  -- sub-t20 one.rt:86:30
-    (λ c. search judging)  -- cast-t21 one.rt:86:29
-    (λ c κs. search judging)  -- put-requires one.rt:79:13
-    (λ c. search judging)  -- returns one.rt:56:1
-    (λ c. search judging)  -- same-length one.rt:56:1
-    (λ c. search judging)  -- returns-2 one.rt:56:1
+    (λ c κs. search judging)  -- parse-requires
+    (λ c κs. search judging)  -- passed-requires
+    (λ c. search judging)  -- enum-told
+    (λ c. search judging)  -- enum-known-d
+    (λ c κs. search judging)  -- put-samples-requires
+    (λ c. search judging)  -- cast-t19
+    (λ c. search judging)  -- sub-t20
+    (λ c. search judging)  -- cast-t21
+    (λ c κs. search judging)  -- put-requires
+    (λ c. search judging)  -- returns
+    (λ c. search judging)  -- same-length
+    (λ c. search judging)  -- returns-2
     )

@@ -8,6 +8,7 @@ use Rattle.reading.specs.Answer.{layout-of}
 use Rattle.reading.proofs.Counts.{counted}
 use Rattle.xdr.specs.Shown.{place}
 use Rattle.flows.specs.Scanned.{Scan}
+use Rattle.flows.proofs.Chain.{within-start}
 use Rattle.flows.proofs.Scan as scan
 use borrow.Fn.Kinds.{In}
 use borrow.Fn.PlainCycle.{Measures, is, falls, and}
@@ -34,6 +35,7 @@ use Rattle.flows.proofs.frames.Frame.parse.Reads as frames-Frame-parse-
 use Rattle.flows.proofs.wireless.Extended80211Aggregation.parse.Reads as wireless-Extended80211Aggregation-parse-reads
 use Rattle.xdr.proofs.Cursor.read_u32.Reads as read-u32-reads
 use Rattle.xdr.proofs.Cursor.refusal.Reads as refusal-reads
+use Rattle.xdr.proofs.Outcome.passed.Reads as passed-reads
 use Rattle.flows.proofs.records.+aggregation+flow_data+flow_record+flow_records+one_pdu+pdus.{
   statement,
 }
@@ -146,6 +148,7 @@ ruleset scanning = (
   scan.aggregation-cut,
   scan.aggregation-held,
   scan.reads-scan,
+  within-start,
   needs,
 )
 
@@ -162,14 +165,17 @@ unfolding layout-of flows
     (λ t. aggregation-lts.spec (
       wireless-Extended80211Aggregation-parse-reads.Asked,
       wireless-Extended80211Aggregation-parse-reads.Learnt,
+      passed-reads.Asked,
+      passed-reads.Learnt,
       pdus-below t,
       pdus.Post,
     )
     (aggregation-at t)
     aggregation.Post
     (λ c κs. search scanning)  -- aggregation-parse-requires records.rt:90:9
-    (λ c. search scanning)  -- aggregation-enum-known-passed records.rt:94:22
-    (λ c. search scanning)  -- aggregation-enum-known-passed-2 records.rt:95:21
+    (λ c κs. search scanning)  -- aggregation-passed-requires
+    (λ c. search scanning)  -- aggregation-enum-known-r
+    (λ c. search scanning)  -- aggregation-enum-known-d
     (λ c κs. search scanning)  -- aggregation-pdus-requires records.rt:95:27
     (λ c. search scanning)  -- aggregation-returns records.rt:86:1
     (λ c. search scanning)  -- aggregation-returns-2 records.rt:86:1

@@ -1,19 +1,13 @@
 use Rattle.flows.proofs.Chain.{items}
-use Rattle.flows.proofs.Protocols.{protocols-known}
 use Rattle.flows.proofs.sampled.protocol.Statement.{statement}
 use Rattle.flows.proofs.sampled.protocol.Tie as tie
 
 pub protocol-spec : {M : Type 1} → statement M
 protocol-spec =
-    tie.close
-    (tie.spec
-    (λ c κs. search (protocols-known, items))  -- read-u32-requires
-    (λ c. search (protocols-known, items))  -- enum-known-r
-    (λ c. search (protocols-known, items))  -- enum-known-v
-    (λ c κs. search (protocols-known, items))  -- unknown-requires
-    (λ c. search (protocols-known, items))  -- returns
-    (λ c κs. search (protocols-known, items))  -- unknown-requires-2
-    (λ c. search (protocols-known, items))  -- returns-2
-    (λ c. search (protocols-known, items))  -- returns-3
-    (λ c. search (protocols-known, items))  -- returns-4
+    tie.close (tie.spec
+    (λ c. search items)  -- enum-known-p
+    (λ c. search items)  -- enum-known-p-2
+    (λ c κs. search items)  -- protocol-at-requires
+    (λ c. search items)  -- returns
+    (λ c. search items)  -- returns-2
     )

@@ -14,6 +14,7 @@ parse-spec =
     (λ c. search steps)  -- enum-known-passed header.rt:87:26
     (λ c κs. search steps)  -- none-requires header.rt:87:32
     (λ c. search steps)  -- enum-known-passed-2 header.rt:88:25
+    (λ c κs. search steps)  -- accepted-requires
     (λ c. search steps)  -- array-read-t18 header.rt:92:31
     (λ c. search steps)  -- array-read-t21 header.rt:93:34
     (λ c. search steps)  -- array-read-t24 header.rt:94:25

@@ -13,6 +13,7 @@ parse-spec =
     (λ c κs. search steps)  -- address-requires-2
     (λ c. search steps)  -- enum-known-passed
     (λ c. search steps)  -- enum-known-passed-2
+    (λ c κs. search steps)  -- accepted-requires
     (λ c. search rows)  -- returns
     (λ c. search rows)  -- returns-2
     )

@@ -12,6 +12,7 @@ parse-spec =
     (λ c κs. search steps)  -- words-requires
     (λ c. search steps)  -- enum-known-passed
     (λ c. search steps)  -- enum-known-passed-2
+    (λ c κs. search steps)  -- accepted-requires
     (λ c. search steps)  -- array-read-t14
     (λ c. search steps)  -- array-read-t17
     (λ c. search steps)  -- array-read-t20

@@ -14,6 +14,7 @@ parse-spec =
     (λ c κs. search steps)  -- range-requires
     (λ c. search steps)  -- enum-known-passed
     (λ c. search steps)  -- enum-known-passed-2
+    (λ c κs. search steps)  -- accepted-requires
     (λ c. search steps)  -- array-read-t21
     (λ c. search steps)  -- array-read-t24
     (λ c. search rows)  -- returns

@@ -16,6 +16,7 @@ parse-spec =
     (λ c. search steps)  -- enum-known-passed
     (λ c κs. search steps)  -- none-requires
     (λ c. search steps)  -- enum-known-passed-2
+    (λ c κs. search steps)  -- accepted-requires
     (λ c. search steps)  -- array-read-t22
     (λ c. search steps)  -- array-read-t25
     (λ c. search steps)  -- array-read-t28

@@ -11,6 +11,7 @@ parse-spec =
     (λ c κs. search steps)  -- word-requires
     (λ c. search steps)  -- enum-known-passed
     (λ c. search steps)  -- enum-known-passed-2
+    (λ c κs. search steps)  -- accepted-requires
     (λ c. search rows)  -- returns
     (λ c. search rows)  -- returns-2
     )

@@ -10,12 +10,12 @@ parse-spec =
     tie.close
     (tie.spec
     (λ c κs. search steps)  -- parse-requires
-    (λ c κs. search steps)  -- words-requires
     (λ c κs. search steps)  -- long-requires
     (λ c κs. search steps)  -- word-requires
     (λ c. search steps)  -- enum-known-passed
     (λ c κs. search steps)  -- none-requires
     (λ c. search steps)  -- enum-known-passed-2
+    (λ c κs. search steps)  -- accepted-requires
     (λ c. search steps)  -- array-read-t22
     (λ c. search steps)  -- array-read-t25
     (λ c. search steps)  -- array-read-t28

@@ -6,5 +6,6 @@ pub parse-spec : {M : Type 1} → statement M
 parse-spec = tie.close (tie.spec
     (λ c κs. search steps)  -- range-requires
     (λ c κs. search steps)  -- six-requires
+    (λ c κs. search steps)  -- words-requires
     (λ c. search rows)  -- returns
     )

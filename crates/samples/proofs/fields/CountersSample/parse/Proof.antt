@@ -12,6 +12,7 @@ parse-spec =
     (λ c κs. search steps)  -- words-requires fields.rt:88:13
     (λ c. search steps)  -- enum-known-passed fields.rt:92:26
     (λ c. search steps)  -- enum-known-passed-2 fields.rt:98:25
+    (λ c κs. search steps)  -- accepted-requires
     (λ c. search steps)  -- array-read-t15 fields.rt:100:34
     (λ c. search steps)  -- array-read-t18 fields.rt:101:39
     (λ c. search steps)  -- array-read-t22 fields.rt:102:30

@@ -12,6 +12,7 @@ parse-spec =
     (λ c κs. search steps)  -- words-requires fields.rt:196:13
     (λ c. search steps)  -- enum-known-passed fields.rt:200:26
     (λ c. search steps)  -- enum-known-passed-2 fields.rt:209:25
+    (λ c κs. search steps)  -- accepted-requires
     (λ c. search steps)  -- array-read-t15 fields.rt:211:34
     (λ c. search steps)  -- array-read-t18 fields.rt:213:37
     (λ c. search steps)  -- array-read-t21 fields.rt:214:38

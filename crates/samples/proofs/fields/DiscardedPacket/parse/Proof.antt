@@ -12,6 +12,7 @@ parse-spec =
     (λ c κs. search steps)  -- words-requires fields.rt:239:13
     (λ c. search steps)  -- enum-known-passed fields.rt:243:26
     (λ c. search steps)  -- enum-known-passed-2 fields.rt:256:25
+    (λ c κs. search steps)  -- accepted-requires
     (λ c. search steps)  -- array-read-t15 fields.rt:258:34
     (λ c. search steps)  -- array-read-t18 fields.rt:260:37
     (λ c. search steps)  -- array-read-t21 fields.rt:261:38

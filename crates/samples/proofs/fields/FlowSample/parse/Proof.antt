@@ -12,6 +12,7 @@ parse-spec =
     (λ c κs. search steps)  -- words-requires fields.rt:45:13
     (λ c. search steps)  -- enum-known-passed fields.rt:49:26
     (λ c. search steps)  -- enum-known-passed-2 fields.rt:60:25
+    (λ c κs. search steps)  -- accepted-requires
     (λ c. search steps)  -- array-read-t17 fields.rt:62:34
     (λ c. search steps)  -- array-read-t20 fields.rt:63:39
     (λ c. search steps)  -- array-read-t24 fields.rt:64:32

@@ -14,6 +14,7 @@ parse-spec =
     (λ c. search steps)  -- enum-known-passed fields.rt:158:26
     (λ c κs. search steps)  -- none-requires fields.rt:158:32
     (λ c. search steps)  -- enum-known-passed-2 fields.rt:159:25
+    (λ c κs. search steps)  -- accepted-requires
     (λ c. search steps)  -- array-read-t16 fields.rt:161:34
     (λ c. search steps)  -- array-read-t19 fields.rt:163:37
     (λ c. search steps)  -- array-read-t22 fields.rt:164:38
