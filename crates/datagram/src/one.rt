@@ -16,6 +16,7 @@ use flows::put::Descriptor;
 use flows::put::Pen;
 use flows::put::Written;
 use flows::put::put;
+use numbers::DataFormat;
 use samples::put::put_samples;
 use samples::scan;
 use xdr::Cursor;
@@ -80,7 +81,7 @@ pub fn put_datagram(s: &[u8], at: usize, store: &mut [u32], base: u32) -> Writte
                 0,
                 Descriptor {
                     kind: 0,
-                    format: 0,
+                    format: DataFormat(0),
                     start: at as u32,
                     length: (end - at) as u32,
                     parent: 4294967295,

@@ -101,6 +101,10 @@ module _ {l : List Field} {s : List ℕ} {p : Passed} where
   pub handed-on : {x : Outcome} {vs : List Value} → p ≡ passed.Stop x → Then l s p (passed.Stop x) vs
   handed-on e = rw e stays
 
+  -- the range of what was not counted
+  pub no-list : {x : Outcome} {r : Ranged} {vs : List Value} → p ≡ passed.Stop x → r ≡ no-range x → Then l s p (r .passed) vs
+  no-list e h = rw (e, h) stays
+
   pub from-there : {c : Cursor} {q : Passed} {vs : List Value} → p ≡ passed.Got c → Then l s (passed.Got c) q vs → Then l s p q vs
   from-there e t = rw e t
 

@@ -8,6 +8,7 @@ use borrow.Author.Needs.{needs}
 use Rattle.reading.specs.Script.{Value, part, Found, nothing, word, Script, give}
 use Rattle.reading.specs.Cursor.{Place, Out, got, stop, Reader, then, read-item, times, follow}
 use Rattle.reading.specs.Layout.{Field, list, segments, any-word, segment, run-of, field, fields}
+use Rattle.reading.specs.Answer.{segment-fields}
 use Rattle.reading.proofs.Fields.{run-out, field-out, fields-out, fields-then, reads-shown, halts-shown, shown-reads, shown-halts, sole-gives, sole-halts}
 use Rattle.xdr.specs.declared.Cursor.{Cursor}
 use Rattle.xdr.specs.declared.Outcome.{Outcome}
@@ -15,7 +16,10 @@ use Rattle.xdr.specs.declared.Passed.{Passed}
 use Rattle.xdr.specs.declared.Passed.the-variants as passed
 use Rattle.xdr.specs.declared.Word.{Word}
 use Rattle.xdr.specs.declared.Word.the-variants as a-word
-use Rattle.xdr.specs.Shown.{place, Inside, Reads, span, refusal, word-out, passed-out}
+use Rattle.xdr.specs.Shown.{place, Inside, Reads, Answers, passed-of, span, refusal, word-out, passed-out}
+use Rattle.xdr.proofs.Ends.{reads-on}
+use Rattle.flows.proofs.Chain.{within-start}
+use Rattle.flows.proofs.Formats.{flat}
 use Rattle.xdr.proofs.Inside.{after-script}
 use Rattle.xdr.proofs.Rows.{word-inside}
 use Rattle.flows.specs.declared.lists.Ranged.{Ranged}
@@ -66,18 +70,9 @@ module _ (s : List ℕ) (c : Cursor) {f : Field} {body : Script} (b : Counts f b
 
 -- ---- one segment
 
-module _ (s : List ℕ) (c : Cursor) {w : Word} (e : word-out w ≡ read-item word s (place c)) where
-  pub segment-cut : {x : Outcome} → w ≡ a-word.Stop x → refusal x ≡ follow segment s (place c)
-  unfolding follow
-  segment-cut h = rw (← (rw h at e))
-
-  pub segment-read : {n : ℕ} {d : Cursor} {p : Passed} {vs : List Value} → w ≡ a-word.Got n d → Reads (list ∷ []) s d p vs → passed-out p nothing ≡ follow segment s (place c)
-  unfolding follow fields field
-  segment-read {d = d} {p} {vs} h r = go p r ∙ rw (← (rw h at e))
-    where
-      go : (p : Passed) → Reads (list ∷ []) s d p vs → passed-out p nothing ≡ follow (run-of any-word (λ _. give nothing)) s (place d)
-      go (passed.Got o) r = sym (fields-then (list ∷ []) (λ _. give nothing) s (place d) ∙ rw (shown-reads (list ∷ []) s (place d) (r .is)))
-      go (passed.Stop x) r = sym (fields-then (list ∷ []) (λ _. give nothing) s (place d) ∙ rw (shown-halts (list ∷ []) s (place d) (r .is)))
+pub segment-read : (s : List ℕ) (c : Cursor) {o : Outcome} {p : Passed} {vs : List Value} → Answers segment-fields s (passed.Got c) o vs → p ≡ passed-of o → passed-out p nothing ≡ follow segment s (place c)
+unfolding fields field
+segment-read s c {p = p} a h = flat segment-fields s c p (reads-on a h refl)
 
 -- ---- the segments one by one: what is left of them ends as they all do
 
@@ -114,4 +109,4 @@ module _ (body : Script) (s : List ℕ) (c : Cursor) (n : ℕ) {o : Out Found} (
 pub turn-inside : (body : Script) (s : List ℕ) (c : Cursor) {p : Passed} {d : Cursor} → passed-out p nothing ≡ follow body s (place c) → p ≡ passed.Got d → Inside s c → Inside s d
 turn-inside body s c e h i = after-script s c i {a = nothing} body (rw h at e)
 
-pub ruleset counts = (counted-got, counted-stop, is-list, is-segments, run-cut, run-read, segment-cut, segment-read, turn, turn-stop, turns-over, turn-inside, word-inside, needs)
+pub ruleset counts = (counted-got, counted-stop, is-list, is-segments, run-cut, run-read, segment-read, turn, turn-stop, turns-over, turn-inside, word-inside, within-start, needs)

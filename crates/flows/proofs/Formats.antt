@@ -5,7 +5,7 @@ use mathlib.Core.List.{List}
 use borrow.Author.Tests.{ne-eqb}
 use Rattle.reading.specs.Script.{Value, nothing, Script, give}
 use Rattle.reading.specs.Cursor.{got, follow}
-use Rattle.reading.specs.Layout.{fields, opened, flows}
+use Rattle.reading.specs.Layout.{Field, fields, opened, flows}
 use Rattle.reading.specs.Answer.{layout-of}
 use Rattle.reading.proofs.Codes.{fair-layout}
 use Rattle.reading.proofs.Fields.{fields-then, shown-reads, shown-halts}
@@ -16,17 +16,16 @@ use Rattle.xdr.specs.declared.Passed.the-variants as passed
 use Rattle.xdr.specs.Shown.{place, Reads, Answers, passed-of, passed-out}
 use Rattle.xdr.proofs.Ends.{reads-on}
 
-module _ (k : ℕ) (s : List ℕ) (c : Cursor) (f : ℕ) where
-  -- k's row has fields alone
-  flat : {vs : List Value} (p : Passed) → Reads (layout-of 2 k) s c p vs → passed-out p nothing ≡ follow (fields (layout-of 2 k) (λ _. give nothing)) s (place c)
-  unfolding follow
-  flat (passed.Got d) e = sym (fields-then (layout-of 2 k) _ s (place c) ∙ rw (shown-reads (layout-of 2 k) s (place c) (e .is)))
-  flat (passed.Stop x) e = sym (fields-then (layout-of 2 k) _ s (place c) ∙ rw (shown-halts (layout-of 2 k) s (place c) (e .is)))
+-- fields alone
+pub flat : (l : List Field) (s : List ℕ) (c : Cursor) {vs : List Value} (p : Passed) → Reads l s c p vs → passed-out p nothing ≡ follow (fields l (λ _. give nothing)) s (place c)
+unfolding follow
+flat l s c (passed.Got d) e = sym (fields-then l _ s (place c) ∙ rw (shown-reads l s (place c) (e .is)))
+flat l s c (passed.Stop x) e = sym (fields-then l _ s (place c) ∙ rw (shown-halts l s (place c) (e .is)))
 
-  pub arm : {o : Outcome} {p : Passed} {vs : List Value} → Answers (layout-of 2 k) s (passed.Got c) o vs → p ≡ passed-of o → f ≡ k
-      → opened (flows (give nothing)) k ≡ fields (layout-of 2 k) (λ _. give nothing)
-      → passed-out p nothing ≡ follow (opened (flows (give nothing)) f) s (place c)
-  arm {p = p} a i h r = flat p (reads-on a i (fair-layout 2 k)) ∙ ap (λ (x : Script). follow x s (place c)) (sym r ∙ ap (opened (flows (give nothing))) (sym h))
+pub arm : (k : ℕ) (s : List ℕ) (c : Cursor) (f : ℕ) {o : Outcome} {p : Passed} {vs : List Value} → Answers (layout-of 2 k) s (passed.Got c) o vs → p ≡ passed-of o → f ≡ k
+    → opened (flows (give nothing)) k ≡ fields (layout-of 2 k) (λ _. give nothing)
+    → passed-out p nothing ≡ follow (opened (flows (give nothing)) f) s (place c)
+arm k s c f {p = p} a i h r = flat (layout-of 2 k) s c p (reads-on a i (fair-layout 2 k)) ∙ ap (λ (x : Script). follow x s (place c)) (sym r ∙ ap (opened (flows (give nothing))) (sym h))
 
 pub raw : (s : List ℕ) (c : Cursor) (f : ℕ) → (f ≡ 1 → ⊥) → (f ≡ 2 → ⊥) → (f ≡ 3 → ⊥) → (f ≡ 4 → ⊥) → (f ≡ 1001 → ⊥) → (f ≡ 1002 → ⊥) → (f ≡ 1003 → ⊥) → (f ≡ 1004 → ⊥) → (f ≡ 1005 → ⊥) → (f ≡ 1006 → ⊥) → (f ≡ 1007 → ⊥) → (f ≡ 1008 → ⊥) → (f ≡ 1009 → ⊥) → (f ≡ 1010 → ⊥) → (f ≡ 1011 → ⊥) → (f ≡ 1012 → ⊥) → (f ≡ 1013 → ⊥) → (f ≡ 1014 → ⊥) → (f ≡ 1015 → ⊥) → (f ≡ 1016 → ⊥)
     → got nothing (place c) ≡ follow (opened (flows (give nothing)) f) s (place c)

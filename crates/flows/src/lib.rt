@@ -3,7 +3,7 @@
 pub mod data;
 pub mod extended;
 pub mod frames;
-mod lists;
+pub mod lists;
 pub mod mpls;
 pub mod next;
 pub mod put;

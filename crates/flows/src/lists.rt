@@ -4,9 +4,13 @@ ghost use mathlib.Core.List.{[], _∷_};
 ghost use Rattle.reading.specs.Script.{part, nothing};
 ghost use Rattle.reading.specs.Cursor.{times, follow};
 ghost use Rattle.reading.specs.Layout.{list, segments, segment};
-ghost use Rattle.xdr.specs.Shown.{Inside, Reads, place, span, passed-out};
-ghost use Rattle.flows.specs.Chain.{counted};
+ghost use Rattle.reading.specs.Answer.{segment-fields};
+ghost use Rattle.xdr.specs.Shown.{Inside, Reads, Answers, place, span, passed-out};
+ghost use Rattle.flows.specs.Chain.{Within, Then, counted};
+ghost use Rattle.flows.specs.Shown.{a-segment};
+use crate::next;
 use xdr::Cursor;
+use xdr::Outcome;
 use xdr::Passed;
 use xdr::Span;
 use xdr::Word;
@@ -46,18 +50,54 @@ pub fn list(c: Cursor, s: &[u8]) -> Ranged
     }
 }
 
-// One segment: a type word and a list.
-fn segment(c: Cursor, s: &[u8]) -> Passed
+fn list_behind(p: Passed, s: &[u8]) -> Ranged
+    requires { ⌜ Within (now s) p ⌝ }
+    ensures { λ r. ⌜ Then (list ∷ []) (now (s .entry)) p (r .passed) (part (span (r .span)) ∷ []) ⌝ }
+{
+    match p {
+        Passed::Stop(r) => counted(0, 0, Passed::Stop(r)),
+        Passed::Got(c) => list(c, s),
+    }
+}
+
+// A segment of an AS path: its type, and where its AS numbers lie.
+#[repr(C)]
+pub struct Segment {
+    pub outcome: Outcome,
+    pub kind: u32,
+    pub path: Span,
+}
+
+impl Segment {
+    pub fn parse(p: Passed, s: &[u8]) -> Segment
+        requires { ⌜ Within (now s) p ⌝ }
+        ensures { λ r. ⌜ Answers segment-fields (now (s .entry)) p (r .outcome) (a-segment r) ⌝ }
+    {
+        let first = next::word(p, s);
+        let passed = first.passed;
+        let row = list_behind(passed, s);
+        let passed = row.passed;
+        let path = row.span;
+        match passed {
+            Passed::Stop(r) => Segment {
+                outcome: r,
+                kind: 0,
+                path: Span { start: 0, count: 0 },
+            },
+            Passed::Got(d) => Segment {
+                outcome: d.accepted(),
+                kind: first.value,
+                path: path,
+            },
+        }
+    }
+}
+
+fn one_segment(c: Cursor, s: &[u8]) -> Passed
     requires { ⌜ Inside (now s) c ⌝ }
     ensures { λ r. ⌜ passed-out r nothing ≡ follow segment (now (s .entry)) (place c) ⌝ }
 {
-    match c.read_u32(s) {
-        Word::Stop(r) => Passed::Stop(r),
-        Word::Got(_, d) => {
-            let path = list(d, s);
-            path.passed
-        }
-    }
+    Segment::parse(Passed::Got(c), s).outcome.passed()
 }
 
 // n segments, one a turn.
@@ -68,7 +108,7 @@ fn each_segment(c: Cursor, s: &[u8], n: u32) -> Passed
     let mut cur = c;
     let mut left = n;
     while 0 < left {
-        match segment(cur, s) {
+        match one_segment(cur, s) {
             Passed::Stop(r) => return Passed::Stop(r),
             Passed::Got(d) => {
                 cur = d;

@@ -8,6 +8,7 @@ ghost use Rattle.reading.specs.Layout.{opened, flows, flow, pdu};
 ghost use Rattle.reading.specs.Answer.{from};
 ghost use Rattle.reading.proofs.Stored.{write};
 ghost use Rattle.flows.specs.Written.{Ready, written, placed, filled, fills};
+use numbers::DataFormat;
 use xdr::load;
 
 // Where descriptors go: the index of this part's first, the parent's index, and how many of this part are written.
@@ -26,7 +27,7 @@ pub struct Written {
 // The six words of a descriptor.
 pub struct Descriptor {
     pub kind: u32,
-    pub format: u32,
+    pub format: DataFormat,
     pub start: u32,
     pub length: u32,
     pub parent: u32,
@@ -36,11 +37,11 @@ pub struct Descriptor {
 // The one place that stores.
 pub fn put(store: &mut [u32], i: usize, d: Descriptor)
     requires { ⌜ 6 * i + 6 ≤ length (now store) ⌝ }
-    ensures { λ r. ⌜ now (store .exit) ≡ write (now (store .entry)) (6 * i) (d .kind ∷ d .format ∷ d .start ∷ d .length ∷ d .parent ∷ d .depth ∷ []) ⌝ }
+    ensures { λ r. ⌜ now (store .exit) ≡ write (now (store .entry)) (6 * i) (d .kind ∷ d .format .0 ∷ d .start ∷ d .length ∷ d .parent ∷ d .depth ∷ []) ⌝ }
 {
     let at = 6 * i;
     store[at] = d.kind;
-    store[at + 1] = d.format;
+    store[at + 1] = d.format.0;
     store[at + 2] = d.start;
     store[at + 3] = d.length;
     store[at + 4] = d.parent;
@@ -118,7 +119,7 @@ fn put_flow_record(s: &[u8], at: usize, left: usize, store: &mut [u32], pen: Pen
         i,
         Descriptor {
             kind: 2,
-            format: format,
+            format: DataFormat(format),
             start: start as u32,
             length: length,
             parent: pen.parent,
@@ -216,7 +217,7 @@ fn put_pdu(s: &[u8], at: usize, left: usize, store: &mut [u32], pen: Pen) -> Wri
         i,
         Descriptor {
             kind: 4,
-            format: 0,
+            format: DataFormat(0),
             start: start as u32,
             length: (end - start) as u32,
             parent: pen.parent,

@@ -1,13 +1,14 @@
 -- What the calls answer: one datagram, a run of them, the fields of a descriptor, and its payload. Assumes nothing.
 use Prim.Native.Nat.{ℕ, zero, suc, _+_, _*_, _/_}
-use mathlib.Core.Bool.{cond}
+use mathlib.Core.Bool.{Bool, true, false, cond}
 use mathlib.Core.List.{List, [], _∷_, _++_}
 use lib.ListN.{length, take, drop, getD}
 use lib.Dec.{eqb, leb}
+use Rattle.reading.specs.Bytes.{be4}
 use Rattle.reading.specs.Utf8.{_&_}
 use Rattle.reading.specs.Script.{Value, number, integer, octets, address, part, Forest, bare, tree, _⊕_, Found, nothing, give}
 use Rattle.reading.specs.Cursor.{Place, Out, got, stop, Reader, then, follow}
-use Rattle.reading.specs.Layout.{num, oct, Field, Row, only, flows, samples, header, depth-limit, datagram}
+use Rattle.reading.specs.Layout.{num, oct, Field, list, Row, words, only, flows, samples, header, depth-limit, datagram}
 use Rattle.reading.specs.Values.{zeros, Reading, valued, reading}
 
 abbrev pub limit : ℕ
@@ -151,18 +152,42 @@ answered r = numbered (r .out) (r .values)
     numbered (got a p) vs = record { code = 0; at = p .at; steps = p .steps; values = vs }
     numbered (stop c a n) vs = record { code = c; at = a; steps = n; values = vs }
 
+-- refused before the first field
+abbrev pub unread : List Field → ℕ → Reading
+unread l code = valued l (stop code 0 0)
+
 -- the fields asked for, of the descriptor that is handed in: by their layout from the start of its range, held to it
 unfoldable pub read : (asked-kind asked-format : ℕ) → (input : List ℕ) → (kind format start extent : ℕ) → Fields
 read ak af s k f start extent = answered (limited s
     (cond (leb (start + extent) (length s))
     (cond (eqb k ak & eqb f af)
     (reading (layout-of ak af) (take (start + extent) s) (from start))
-    (none 11))
-    (none 10))
-    (none 1))
-  where
-    none : ℕ → Reading
-    none code = valued (layout-of ak af) (stop code 0 0)
+    (unread (layout-of ak af) 11))
+    (unread (layout-of ak af) 10))
+    (unread (layout-of ak af) 1))
+
+-- ---- what is answered as start and count
+
+pub record Listed : Type 0 where
+  pub present : Bool
+  pub value : ℕ
+
+-- the word with this index of a list: none where the list is no longer than that, or the input ends before it
+unfoldable pub list-word : (input : List ℕ) → (start count index : ℕ) → Listed
+list-word s start count i =
+    cond (leb (i + 1) count & leb (start + 4 * (i + 1)) (length s))
+    (record { present = true; value = be4 s (start + 4 * i) })
+    (record { present = false; value = 0 })
+
+-- a segment of an AS path: a type and a list
+abbrev pub segment-fields : List Field
+segment-fields = words 1 ++ list ∷ []
+
+-- the segment at a position; the position answered is where the next one begins
+unfoldable pub segment-at : (input : List ℕ) → (at : ℕ) → Fields
+segment-at s at = answered (limited s
+    (cond (leb at (length s)) (reading segment-fields s (from at)) (unread segment-fields 10))
+    (unread segment-fields 1))
 
 -- ---- the payload
 

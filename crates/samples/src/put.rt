@@ -11,6 +11,7 @@ use flows::put::Pen;
 use flows::put::Written;
 use flows::put::put;
 use flows::put::put_flow_records;
+use numbers::DataFormat;
 use xdr::load;
 
 // One counter record.
@@ -28,7 +29,7 @@ fn put_counter_record(s: &[u8], at: usize, store: &mut [u32], pen: Pen) -> Writt
         i,
         Descriptor {
             kind: 3,
-            format: format,
+            format: DataFormat(format),
             start: start as u32,
             length: length,
             parent: pen.parent,
@@ -137,7 +138,7 @@ fn put_sample(s: &[u8], at: usize, store: &mut [u32], pen: Pen) -> Written
         i,
         Descriptor {
             kind: 1,
-            format: format,
+            format: DataFormat(format),
             start: start as u32,
             length: length,
             parent: pen.parent,

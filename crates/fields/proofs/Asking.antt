@@ -1,0 +1,72 @@
+-- Field reading: a law for each way out of what is asked before it, and the one by which a reader's answer is the field reading's. Assumes nothing.
+use Prim.Native.Nat.{ℕ, _+_, _≤_, _<_}
+use mathlib.Core.Path.{_≡_, refl, sym, _∙_}
+use mathlib.Core.Bool.{true, false}
+use mathlib.Core.List.{List}
+use native.Mathlib.Omega.{arith}
+use borrow.Author.Needs.{needs}
+use borrow.Author.Tests.{le-leb, lt-leb, eq-eqb, ne-eqb}
+use lib.Dec.{eqb, leb}
+use lib.ListN.{length, take}
+use lib.Seq.{length-take-le}
+use Rattle.reading.specs.Script.{Value}
+use Rattle.reading.specs.Cursor.{stop}
+use Rattle.reading.specs.Values.{valued}
+use Rattle.reading.specs.Answer.{answered, layout-of, read, segment-fields, segment-at}
+use Rattle.xdr.specs.declared.Outcome.{Outcome}
+use Rattle.xdr.specs.declared.Passed.{Passed}
+use Rattle.xdr.specs.declared.Passed.the-variants as passed
+use Rattle.xdr.specs.Shown.{answer-of, Answers}
+use Rattle.flows.specs.declared.put.Descriptor.{Descriptor}
+use Rattle.flows.specs.Chain.{Within, inside, over}
+use Rattle.fields.specs.declared.ask.Asked.{Asked}
+use Rattle.fields.specs.Shown.{read-of, unread, not-asked, Asks, Begins}
+
+pub nothing-asked : {code : ℕ} {p : Passed} → p ≡ unread code → record { passed = p; end = 0 } ≡ not-asked code
+nothing-asked e = rw e
+
+module _ (k f : ℕ) (s : List ℕ) (d : Descriptor) {r : Asked} where
+  refused-so : (code : ℕ) → answered (valued (layout-of k f) (stop code 0 0)) ≡ read-of k f s d → r ≡ not-asked code → Asks k f s d r
+  refused-so code e h = rw h (record { inside = omega arith; within = over; is = e })
+
+  pub asks-long : 16777216 < length s → r ≡ not-asked 1 → Asks k f s d r
+  unfolding read
+  asks-long h = refused-so 1 (rw (lt-leb (length s) 16777216 h))
+
+  module _ (h : length s ≤ 16777216) where
+    pub asks-far : length s < d .start + d .length → r ≡ not-asked 10 → Asks k f s d r
+    unfolding read
+    asks-far l = refused-so 10 (rw (le-leb (length s) 16777216 h, lt-leb (d .start + d .length) (length s) l))
+
+    module _ (l : d .start + d .length ≤ length s) where
+      pub asks-kind : (d .kind ≡ k → ⊥) → r ≡ not-asked 11 → Asks k f s d r
+      unfolding read
+      asks-kind z = refused-so 11 (rw (le-leb (length s) 16777216 h, le-leb (d .start + d .length) (length s) l, ne-eqb (d .kind) k z))
+
+      module _ (e : d .kind ≡ k) where
+        pub asks-format : (d .format .0 ≡ f → ⊥) → r ≡ not-asked 11 → Asks k f s d r
+        unfolding read
+        asks-format z = refused-so 11 (rw (le-leb (length s) 16777216 h, le-leb (d .start + d .length) (length s) l, eq-eqb (d .kind) k e, ne-eqb (d .format .0) f z))
+
+pub asks-on : (k f : ℕ) (s : List ℕ) (d : Descriptor) → length s ≤ 16777216 → d .start + d .length ≤ length s → d .kind ≡ k → d .format .0 ≡ f
+    → Asks k f s d (record { passed = passed.Got (record { at = d .start; steps = 0 }); end = d .start + d .length })
+unfolding read
+asks-on k f s d h l e z =
+    let n : length (take (d .start + d .length) s) ≡ d .start + d .length = length-take-le (d .start + d .length) s l in
+    record {
+      inside = l;
+      within = inside {c = record { at = d .start; steps = 0 }} (record { inside = omega (arith, n); counted = omega arith });
+      is = rw (le-leb (length s) 16777216 h, le-leb (d .start + d .length) (length s) l, eq-eqb (d .kind) k e, eq-eqb (d .format .0) f z);
+    }
+
+module _ {k f : ℕ} {s : List ℕ} {d : Descriptor} {r : Asked} (a : Asks k f s d r) where
+  pub asked-part : r .end ≡ length (take (r .end) s)
+  asked-part = sym (length-take-le (r .end) s (a .inside))
+
+  pub asked-within : Within (take (r .end) s) (r .passed)
+  asked-within = a .within
+
+  pub read-so : {o : Outcome} {vs : List Value} → Answers (layout-of k f) (take (r .end) s) (r .passed) o vs → answer-of o vs ≡ read-of k f s d
+  read-so i = i .is ∙ a .is
+
+pub ruleset asking = (nothing-asked, asks-long, asks-far, asks-kind, asks-format, asks-on, asked-part, asked-within, read-so, needs)

@@ -1,0 +1,98 @@
+-- Parts of the input: a payload, a list's words, an AS path's segments. Assumes nothing.
+use Prim.Native.Nat.{ℕ, _+_, _*_, _-_, _/_, _^_, _≤_, _<_}
+use mathlib.Core.Path.{_≡_, refl, ap, _∙_}
+use mathlib.Core.Bool.{true, false}
+use mathlib.Core.List.{List, []}
+use native.Mathlib.Omega.{arith}
+use borrow.Author.Needs.{needs}
+use borrow.Author.Tests.{le-leb, lt-leb}
+use lib.Dec.{leb}
+use lib.ListN.{length, take, drop}
+use mir.Syntax.{w64}
+use mir.Val.{Fits}
+use Rattle.reading.specs.Bytes.{be4}
+use Rattle.reading.specs.Script.{Value}
+use Rattle.reading.specs.Cursor.{stop}
+use Rattle.reading.specs.Values.{valued}
+use Rattle.reading.specs.Answer.{answered, payload, list-word, segment-fields, segment-at}
+use Rattle.xdr.specs.declared.Outcome.{Outcome}
+use Rattle.xdr.specs.declared.Passed.{Passed}
+use Rattle.xdr.specs.declared.Passed.the-variants as passed
+use Rattle.xdr.specs.Shown.{answer-of, Answers}
+use Rattle.flows.specs.Chain.{Within, inside, over}
+use Rattle.fields.specs.Shown.{unread, Begins}
+
+-- ---- the payload
+
+module _ (s : List ℕ) (start extent : ℕ) where
+  pub payload-long : 16777216 < length s → [] ≡ payload s start extent
+  unfolding payload
+  payload-long h = rw (lt-leb (length s) 16777216 h)
+
+  module _ (h : length s ≤ 16777216) where
+    pub payload-far : length s < start + extent → [] ≡ payload s start extent
+    unfolding payload
+    payload-far l = rw (le-leb (length s) 16777216 h, lt-leb (start + extent) (length s) l)
+
+    pub payload-there : start + extent ≤ length s → take (start + extent - start) (drop start s) ≡ payload s start extent
+    unfolding payload
+    payload-there l =
+        let e : start + extent - start ≡ extent = omega arith in
+        rw (le-leb (length s) 16777216 h, le-leb (start + extent) (length s) l, e)
+
+-- ---- a word of a list
+
+module _ (s : List ℕ) (start count i : ℕ) where
+  pub list-short : count ≤ i → record { present = false; value = 0 } ≡ list-word s start count i
+  unfolding list-word
+  list-short l = rw (lt-leb (i + 1) count (omega (arith, l)))
+
+  module _ (h : i < count) where
+    past : length s < start + 4 * (i + 1) → record { present = false; value = 0 } ≡ list-word s start count i
+    unfolding list-word
+    past l = rw (le-leb (i + 1) count (omega (arith, h)), lt-leb (start + 4 * (i + 1)) (length s) l)
+
+    pub list-far : length s < start → record { present = false; value = 0 } ≡ list-word s start count i
+    list-far l = past (omega (arith, l))
+
+    pub list-cut : (length s - start) / 4 ≤ i → start ≤ length s → record { present = false; value = 0 } ≡ list-word s start count i
+    list-cut l k = past (omega (arith, l, k))
+
+    pub list-there : {v : ℕ} → start ≤ length s → i < (length s - start) / 4 → v ≡ be4 s (start + 4 * i) → record { present = true; value = v } ≡ list-word s start count i
+    unfolding list-word
+    list-there k l e = rw (le-leb (i + 1) count (omega (arith, h)), le-leb (start + 4 * (i + 1)) (length s) (omega (arith, k, l)), e)
+
+-- the word lies in the input
+module _ (s : List ℕ) (start i : ℕ) (k : start ≤ length s) (l : i < (length s - start) / 4) where
+  pub word-there : start + 4 * i + 4 ≤ length s
+  word-there = omega (arith, k, l)
+
+-- ---- a segment of an AS path
+
+module _ (s : List ℕ) (at : ℕ) {p : Passed} where
+  begins-not : (code : ℕ) → answered (valued segment-fields (stop code 0 0)) ≡ segment-at s at → p ≡ unread code → Begins s at p
+  begins-not code e h = rw h (record { within = over; is = e })
+
+  pub begins-long : 16777216 < length s → p ≡ unread 1 → Begins s at p
+  unfolding segment-at
+  begins-long h = begins-not 1 (rw (lt-leb (length s) 16777216 h))
+
+  pub begins-far : length s ≤ 16777216 → length s < at → p ≡ unread 10 → Begins s at p
+  unfolding segment-at
+  begins-far h l = begins-not 10 (rw (le-leb (length s) 16777216 h, lt-leb at (length s) l))
+
+pub begins-there : (s : List ℕ) (at : ℕ) → length s ≤ 16777216 → at ≤ length s → Begins s at (passed.Got (record { at = at; steps = 0 }))
+unfolding segment-at
+begins-there s at h l = record {
+  within = inside {c = record { at = at; steps = 0 }} (record { inside = l; counted = omega arith });
+  is = rw (le-leb (length s) 16777216 h, le-leb at (length s) l);
+}
+
+module _ {s : List ℕ} {at : ℕ} {p : Passed} (b : Begins s at p) where
+  pub begins-within : Within s p
+  begins-within = b .within
+
+  pub segment-so : {o : Outcome} {vs : List Value} → Answers segment-fields s p o vs → answer-of o vs ≡ segment-at s at
+  segment-so a = a .is ∙ b .is
+
+pub ruleset parts = (payload-long, payload-far, payload-there, list-short, list-far, list-cut, list-there, word-there, begins-long, begins-far, begins-there, begins-within, segment-so, needs)

@@ -1,0 +1,12 @@
+use Rattle.fields.proofs.Asking.{asking}
+use Rattle.fields.proofs.extended.extended_router.Statement.{statement}
+use Rattle.fields.proofs.extended.extended_router.Tie as tie
+
+pub extended-router-spec : {M : Type 1} → statement M
+extended-router-spec =
+    tie.close (tie.spec
+    (λ c κs. search asking)  -- ask-requires
+    (λ c. search asking)  -- slice-aggregate-parse
+    (λ c κs. search asking)  -- parse-requires
+    (λ c. search asking)  -- returns
+    )

@@ -1,0 +1,38 @@
+-- What the field readings ask and answer, in terms of the reading. Assumes nothing.
+use Prim.Native.Nat.{ℕ, _≤_}
+use mathlib.Core.Path.{_≡_}
+use mathlib.Core.List.{List}
+use lib.ListN.{length, take}
+use Rattle.reading.specs.Answer as answer
+use Rattle.reading.specs.Answer.{Fields, answered, layout-of, read, segment-fields, segment-at}
+use Rattle.xdr.specs.declared.Passed.{Passed}
+use Rattle.xdr.specs.declared.Passed.the-variants as passed
+use Rattle.xdr.specs.Shown.{read-on}
+use Rattle.flows.specs.declared.put.Descriptor.{Descriptor}
+use Rattle.flows.specs.Chain.{Within}
+use Rattle.fields.specs.declared.ask.Asked.{Asked}
+use Rattle.fields.specs.declared.parts.Listed.{Listed}
+
+-- the fields of this kind and format, of a descriptor
+abbrev pub read-of : (kind format : ℕ) → List ℕ → Descriptor → Fields
+read-of k f s d = read k f s (d .kind) (d .format .0) (d .start) (d .length)
+
+abbrev pub unread : ℕ → Passed
+unread code = passed.Stop (record { code = code; at = 0; steps = 0 })
+
+abbrev pub not-asked : ℕ → Asked
+not-asked code = record { passed = unread code; end = 0 }
+
+-- the layout, read on from here and held to the range, is what the field reading answers
+pub record Asks (kind format : ℕ) (s : List ℕ) (d : Descriptor) (r : Asked) : Type 0 where
+  pub inside : r .end ≤ length s
+  pub within : Within (take (r .end) s) (r .passed)
+  pub is : answered (read-on (layout-of kind format) (take (r .end) s) (r .passed)) ≡ read-of kind format s d
+
+-- a segment, read on from here, is the one at this position
+pub record Begins (s : List ℕ) (at : ℕ) (p : Passed) : Type 0 where
+  pub within : Within s p
+  pub is : answered (read-on segment-fields s p) ≡ segment-at s at
+
+abbrev pub listed : Listed → answer.Listed
+listed r = record { present = r .present; value = r .value }

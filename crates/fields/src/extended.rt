@@ -1,0 +1,70 @@
+// What is known of a packet beside its bytes: formats 1001 to 1005, 1007 and 1012.
+ghost use mathlib.Core.Path.{_≡_};
+ghost use Rattle.xdr.specs.Shown.{answer-of};
+ghost use Rattle.flows.specs.Shown.{extended-switch, extended-router, extended-gateway, extended-user, extended-url, extended-nat, extended-vlan-tunnel};
+ghost use Rattle.fields.specs.Shown.{read-of};
+use crate::ask::ask;
+use flows::extended::ExtendedGateway;
+use flows::extended::ExtendedNat;
+use flows::extended::ExtendedRouter;
+use flows::extended::ExtendedSwitch;
+use flows::extended::ExtendedUrl;
+use flows::extended::ExtendedUser;
+use flows::extended::ExtendedVlanTunnel;
+use flows::put::Descriptor;
+
+pub fn extended_switch(s: &[u8], d: Descriptor) -> ExtendedSwitch
+    ensures { λ r. ⌜ answer-of (r .outcome) (extended-switch r) ≡ read-of 2 1001 (now (s .entry)) d ⌝ }
+{
+    let asked = ask(s, d, 2, 1001);
+    let passed = asked.passed;
+    ExtendedSwitch::parse(passed, &s[..asked.end])
+}
+
+pub fn extended_router(s: &[u8], d: Descriptor) -> ExtendedRouter
+    ensures { λ r. ⌜ answer-of (r .outcome) (extended-router r) ≡ read-of 2 1002 (now (s .entry)) d ⌝ }
+{
+    let asked = ask(s, d, 2, 1002);
+    let passed = asked.passed;
+    ExtendedRouter::parse(passed, &s[..asked.end])
+}
+
+pub fn extended_gateway(s: &[u8], d: Descriptor) -> ExtendedGateway
+    ensures { λ r. ⌜ answer-of (r .outcome) (extended-gateway r) ≡ read-of 2 1003 (now (s .entry)) d ⌝ }
+{
+    let asked = ask(s, d, 2, 1003);
+    let passed = asked.passed;
+    ExtendedGateway::parse(passed, &s[..asked.end])
+}
+
+pub fn extended_user(s: &[u8], d: Descriptor) -> ExtendedUser
+    ensures { λ r. ⌜ answer-of (r .outcome) (extended-user r) ≡ read-of 2 1004 (now (s .entry)) d ⌝ }
+{
+    let asked = ask(s, d, 2, 1004);
+    let passed = asked.passed;
+    ExtendedUser::parse(passed, &s[..asked.end])
+}
+
+pub fn extended_url(s: &[u8], d: Descriptor) -> ExtendedUrl
+    ensures { λ r. ⌜ answer-of (r .outcome) (extended-url r) ≡ read-of 2 1005 (now (s .entry)) d ⌝ }
+{
+    let asked = ask(s, d, 2, 1005);
+    let passed = asked.passed;
+    ExtendedUrl::parse(passed, &s[..asked.end])
+}
+
+pub fn extended_nat(s: &[u8], d: Descriptor) -> ExtendedNat
+    ensures { λ r. ⌜ answer-of (r .outcome) (extended-nat r) ≡ read-of 2 1007 (now (s .entry)) d ⌝ }
+{
+    let asked = ask(s, d, 2, 1007);
+    let passed = asked.passed;
+    ExtendedNat::parse(passed, &s[..asked.end])
+}
+
+pub fn extended_vlan_tunnel(s: &[u8], d: Descriptor) -> ExtendedVlanTunnel
+    ensures { λ r. ⌜ answer-of (r .outcome) (extended-vlan-tunnel r) ≡ read-of 2 1012 (now (s .entry)) d ⌝ }
+{
+    let asked = ask(s, d, 2, 1012);
+    let passed = asked.passed;
+    ExtendedVlanTunnel::parse(passed, &s[..asked.end])
+}

@@ -1,0 +1,43 @@
+// What was sampled: formats 1 to 4.
+ghost use mathlib.Core.Path.{_≡_};
+ghost use Rattle.xdr.specs.Shown.{answer-of};
+ghost use Rattle.flows.specs.Shown.{sampled-header, sampled-ethernet, sampled-ipv4, sampled-ipv6};
+ghost use Rattle.fields.specs.Shown.{read-of};
+use crate::ask::ask;
+use flows::put::Descriptor;
+use flows::sampled::SampledEthernet;
+use flows::sampled::SampledHeader;
+use flows::sampled::SampledIpv4;
+use flows::sampled::SampledIpv6;
+
+pub fn sampled_header(s: &[u8], d: Descriptor) -> SampledHeader
+    ensures { λ r. ⌜ answer-of (r .outcome) (sampled-header r) ≡ read-of 2 1 (now (s .entry)) d ⌝ }
+{
+    let asked = ask(s, d, 2, 1);
+    let passed = asked.passed;
+    SampledHeader::parse(passed, &s[..asked.end])
+}
+
+pub fn sampled_ethernet(s: &[u8], d: Descriptor) -> SampledEthernet
+    ensures { λ r. ⌜ answer-of (r .outcome) (sampled-ethernet r) ≡ read-of 2 2 (now (s .entry)) d ⌝ }
+{
+    let asked = ask(s, d, 2, 2);
+    let passed = asked.passed;
+    SampledEthernet::parse(passed, &s[..asked.end])
+}
+
+pub fn sampled_ipv4(s: &[u8], d: Descriptor) -> SampledIpv4
+    ensures { λ r. ⌜ answer-of (r .outcome) (sampled-ipv4 r) ≡ read-of 2 3 (now (s .entry)) d ⌝ }
+{
+    let asked = ask(s, d, 2, 3);
+    let passed = asked.passed;
+    SampledIpv4::parse(passed, &s[..asked.end])
+}
+
+pub fn sampled_ipv6(s: &[u8], d: Descriptor) -> SampledIpv6
+    ensures { λ r. ⌜ answer-of (r .outcome) (sampled-ipv6 r) ≡ read-of 2 4 (now (s .entry)) d ⌝ }
+{
+    let asked = ask(s, d, 2, 4);
+    let passed = asked.passed;
+    SampledIpv6::parse(passed, &s[..asked.end])
+}

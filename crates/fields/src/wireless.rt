@@ -1,0 +1,43 @@
+// 802.11: formats 1013 to 1016.
+ghost use mathlib.Core.Path.{_≡_};
+ghost use Rattle.xdr.specs.Shown.{answer-of};
+ghost use Rattle.flows.specs.Shown.{extended-80211-payload, extended-80211-rx, extended-80211-tx, extended-80211-aggregation};
+ghost use Rattle.fields.specs.Shown.{read-of};
+use crate::ask::ask;
+use flows::put::Descriptor;
+use flows::wireless::Extended80211Aggregation;
+use flows::wireless::Extended80211Payload;
+use flows::wireless::Extended80211Rx;
+use flows::wireless::Extended80211Tx;
+
+pub fn extended_80211_payload(s: &[u8], d: Descriptor) -> Extended80211Payload
+    ensures { λ r. ⌜ answer-of (r .outcome) (extended-80211-payload r) ≡ read-of 2 1013 (now (s .entry)) d ⌝ }
+{
+    let asked = ask(s, d, 2, 1013);
+    let passed = asked.passed;
+    Extended80211Payload::parse(passed, &s[..asked.end])
+}
+
+pub fn extended_80211_rx(s: &[u8], d: Descriptor) -> Extended80211Rx
+    ensures { λ r. ⌜ answer-of (r .outcome) (extended-80211-rx r) ≡ read-of 2 1014 (now (s .entry)) d ⌝ }
+{
+    let asked = ask(s, d, 2, 1014);
+    let passed = asked.passed;
+    Extended80211Rx::parse(passed, &s[..asked.end])
+}
+
+pub fn extended_80211_tx(s: &[u8], d: Descriptor) -> Extended80211Tx
+    ensures { λ r. ⌜ answer-of (r .outcome) (extended-80211-tx r) ≡ read-of 2 1015 (now (s .entry)) d ⌝ }
+{
+    let asked = ask(s, d, 2, 1015);
+    let passed = asked.passed;
+    Extended80211Tx::parse(passed, &s[..asked.end])
+}
+
+pub fn extended_80211_aggregation(s: &[u8], d: Descriptor) -> Extended80211Aggregation
+    ensures { λ r. ⌜ answer-of (r .outcome) (extended-80211-aggregation r) ≡ read-of 2 1016 (now (s .entry)) d ⌝ }
+{
+    let asked = ask(s, d, 2, 1016);
+    let passed = asked.passed;
+    Extended80211Aggregation::parse(passed, &s[..asked.end])
+}
