@@ -10,6 +10,7 @@ use xdr::Address;
 use xdr::Cursor;
 
 // What a call answers: document 01's code, the position, the steps, and the descriptors needed.
+#[repr(C)]
 pub struct Answer {
     pub code: u32,
     pub at: usize,
@@ -18,6 +19,7 @@ pub struct Answer {
 }
 
 // The answer to one datagram, with its header; that is all zero on a refusal.
+#[repr(C)]
 pub struct Decoded {
     pub answer: Answer,
     pub agent_address: Address,
