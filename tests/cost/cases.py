@@ -1,0 +1,112 @@
+"""Calls, and what document 01 has them answer and leave in the store: each expected word is the document's own, or follows from its rule
+for descriptors."""
+from collections import namedtuple
+
+from long import LONG
+from shapes import CUT_KINDS, EVERY_KIND, IPV6, P2, P3, P4, P6, P7, P9, P11, P12, P12_DEEPER, P13, words
+
+NOBODY = 4294967295
+# as answers.c has them: what the store holds before a call, and how many words behind it are shown too
+FILL = 0xA5A5A5A5
+SPARE = 12
+NO_HEADER = (0, bytes(16), 0, 0, 0, 0)
+
+# what is expected is a Shown; None stands for anything
+Case = namedtuple("Case", "group call data room expected")
+Shown = namedtuple("Shown", "code at steps needed header store")
+# an input, its header, and what is answered where the store has room
+Session = namedtuple("Session", "data header at steps rows")
+
+
+def nested(count):
+    """The descriptors of so many aggregations, each in the other's PDU."""
+    rows = [(0, 0, 0, 64 + 16 * count, NOBODY, 0), (1, 1, 32, 32 + 16 * count, 0, 0)]
+    for depth in range(1, count + 1):
+        start, inside, record = 56 + 16 * depth, 16 * (count - depth), 2 * depth
+        rows += [(2, 1016, start, 8 + inside, record - 1, depth), (4, 0, start + 8, inside, record, depth)]
+    return rows
+
+
+def of_h(samples):
+    return (0, bytes(16), 0, 1, 0, samples)
+
+
+S2 = Session(P2, of_h(0), 24, 6, [(0, 0, 0, 24, NOBODY, 0)])
+S9 = Session(P9, of_h(1), 44, 11, [(0, 0, 0, 44, NOBODY, 0), (1, 2, 32, 12, 0, 0)])
+S11 = Session(P11, of_h(1), 80, 20, nested(1))
+S12 = Session(P12, of_h(1), 192, 48, nested(8))
+WITH_ADDRESS = Session(words(5) + IPV6 + words(7, 8, 9, 0), (2, bytes(range(16)), 7, 8, 9, 0), 40, 7, [(0, 0, 0, 40, NOBODY, 0)])
+
+# a malformed datagram, its code, position and steps
+MALFORMED = [(P3, 3, 0, 0), (P4, 4, 4, 1), (P6, 2, 28, 7), (P7, 5, 28, 7), (P12_DEEPER, 8, 192, 48), (P13, 6, 72, 18)]
+
+
+def accepted(session, call, room):
+    written = [word for row in session.rows for word in row]
+    header = session.header if call == "decode" else NO_HEADER
+    return Shown(0, session.at, session.steps, len(session.rows), header, tuple(written + [FILL] * (room + SPARE - len(written))))
+
+
+def unwritten(code, at, steps, needed, room):
+    return Shown(code, at, steps, needed, NO_HEADER, (FILL,) * (room + SPARE))
+
+
+def with_rooms(group, call, session, rooms):
+    """The call with a store of each of these lengths."""
+    needed = len(session.rows)
+    for room in rooms:
+        if room // 6 >= needed:
+            yield Case(group, call, session.data, room, accepted(session, call, room))
+        else:
+            yield Case(group, call, session.data, room, unwritten(9, 0, session.steps, needed, room))
+
+
+def edges(call):
+    for session in (S2, S9, S11, S12, WITH_ADDRESS):
+        edge = 6 * len(session.rows)
+        rooms = {*range(31), *range(max(0, edge - 8), edge + 9)}
+        yield from with_rooms("stores of 0 to 30 words, and of 8 less to 8 more than what is needed", call, session, sorted(rooms))
+
+
+def malformed(call):
+    group = "a malformed datagram, whatever the store"
+    for room in (0, 5, 6, 600):
+        for data, code, at, steps in MALFORMED:
+            # code 2 ends a run, which then has no datagram
+            ends = call == "run" and code == 2
+            yield Case(group, call, data, room, unwritten(0, 0, steps, 0, room) if ends else unwritten(code, at, steps, 0, room))
+        if call == "run":
+            yield Case(group, call, P9 + P3, room, unwritten(3, 44, 11, 0, room))
+
+
+def sum_of_run():
+    """P9, P2 and P11 end to end: each of them fits where the sum does not."""
+    rows = list(S9.rows)
+    for session, start in ((S2, 44), (S11, 68)):
+        index = len(rows)
+        rows += [(k, f, at + start, n, p if p == NOBODY else p + index, d) for k, f, at, n, p, d in session.rows]
+    three = Session(P9 + P2 + P11, NO_HEADER, 148, 37, rows)
+    return with_rooms("a run whose sum does not fit, and one that just does", "run", three, range(55))
+
+
+def deep(call):
+    group = "every kind of record at depth 8, whole, and cut short before each of its words"
+    yield Case(group, call, EVERY_KIND, 600, Shown(0, len(EVERY_KIND), None, 39, None, None))
+    for data in CUT_KINDS:
+        yield Case(group, call, data, 600, unwritten(2 if call == "decode" else 0, None, None, 0, 600))
+
+
+def long():
+    for _, call, code, shape in LONG:
+        data = shape(16384)
+        yield Case("inputs of one shape, 16 KiB each", call, data, len(data) // 4 * 6, Shown(code, len(data), None, None, None, None))
+
+
+def all_cases():
+    yield from with_rooms("P11 with a store for three descriptors: code 9, needed 4, 20 steps", "decode", S11, [18])
+    for call in ("decode", "run"):
+        yield from edges(call)
+        yield from malformed(call)
+        yield from deep(call)
+    yield from sum_of_run()
+    yield from long()

@@ -1,0 +1,74 @@
+"""Cost by length: instructions, which callgrind counts, and times.
+
+A time over 1 MiB in one place comes from caches that 16 MiB and their store do not fit. So the bound is on times over the same memory,
+sixteen inputs of 1 MiB side by side against one of 16 MiB; the ratio with the caches' help is printed beside it."""
+import os
+import re
+import struct
+import subprocess
+from concurrent.futures import ThreadPoolExecutor
+from statistics import median
+
+import build
+from long import LISTS, LONG
+from shapes import KINDS, with_record
+
+MIB = 1 << 20
+MOST = 17
+ROUNDS = 7
+CALLGRIND = ["valgrind", "--tool=callgrind", "--collect-atstart=no", "--callgrind-out-file=/dev/null"]
+
+
+def sent(*inputs):
+    return b"".join(struct.pack("<I", len(data)) + data for data in inputs)
+
+
+def instructions(command, call, code, data):
+    """The instructions of one call, which answers this code at the input's end."""
+    ran = subprocess.run([*CALLGRIND, *command, call], input=sent(data), capture_output=True)
+    counted = re.search(rb"Collected : (\d+)", ran.stderr)
+    if ran.returncode or not counted:
+        build.fail("callgrind counted nothing: " + ran.stderr.decode("utf-8", "replace").strip().split("\n")[-1])
+    if ran.stdout.split() != [b"%d" % code, b"%d" % len(data)]:
+        build.fail(f"a call over {len(data)} bytes answers {ran.stdout.decode().strip()}, not {code} at their end")
+    return int(counted.group(1))
+
+
+def times(command, call, code, small, big):
+    """For each round the times for 16 MiB, for 1 MiB of the same memory, and for 1 MiB in the caches."""
+    first, *rounds = build.run([*command, call, str(ROUNDS)], input=sent(small, big)).decode().strip().split("\n")
+    if first.split() != [str(n) for n in (code, len(small), code, len(big))]:
+        build.fail(f"calls over {len(small)} and {len(big)} bytes answer {first}, not {code} at their ends")
+    return [tuple(map(float, line.split())) for line in rounds]
+
+
+def long_figures(count, pool):
+    def ratio(case):
+        _, call, code, shape = case
+        small, big = (instructions(count, call, code, shape(size)) for size in (MIB, 16 * MIB))
+        return big / small
+
+    time = build.program("time")
+    for (name, call, code, shape), in_instructions in zip(LONG, list(pool.map(ratio, LONG))):
+        rounds = times(time, call, code, shape(MIB), shape(16 * MIB))
+        in_time = median(big / side for big, side, _ in rounds)
+        cached = median(big / in_place for big, _, in_place in rounds)
+        text = f"{in_instructions:.2f} in instructions, {in_time:.2f} in time, at most {MOST} ({cached:.2f} against 1 MiB in the caches)"
+        yield in_instructions <= MOST and in_time <= MOST, f"16 MiB over 1 MiB, {name}: {text}"
+
+
+def list_figures(count, pool):
+    def both(case):
+        return [instructions(count, "decode", 0, case[1](n)) for n in (10, 1000000)]
+
+    for (name, _), (few, many) in zip(LISTS, pool.map(both, LISTS)):
+        yield few == many, f"a list of 10 words and one of 1000000, {name}: {few} and {many} instructions, which must be equal"
+    one, eight = pool.map(lambda form: instructions(count, "decode", 0, with_record(form, KINDS[form])), (1011, 3))
+    yield eight - one < 7, f"a row of one word and one of eight: {one} and {eight} instructions, less than 7 more"
+
+
+def figures():
+    count = build.program("count")
+    with ThreadPoolExecutor(os.cpu_count()) as pool:
+        yield from list_figures(count, pool)
+        yield from long_figures(count, pool)

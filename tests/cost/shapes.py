@@ -1,0 +1,96 @@
+"""Inputs: sessions of document 01, every kind of flow record at depth 8, and long inputs of one shape."""
+import struct
+
+MOST = 4294967295
+
+
+def words(*numbers):
+    return struct.pack(f">{len(numbers)}I", *numbers)
+
+
+def header(samples):
+    return words(5, 0, 0, 1, 0, samples)
+
+
+def opaque(data):
+    return words(len(data)) + data + bytes(-len(data) % 4)
+
+
+def frame(form, data):
+    return words(form) + opaque(data)
+
+
+def flow_sample(count, records):
+    return frame(1, words(0, 0, 0, 0, 0, 0, 0, count) + records)
+
+
+def counter_sample(count, records):
+    return frame(2, words(1, 0, count) + records)
+
+
+def aggregations(depth, count, records):
+    """So many aggregations, each in the other's PDU; the innermost PDU announces `count` records and holds these."""
+    if depth == 1:
+        return frame(1016, words(1, count) + records)
+    return frame(1016, words(1, 1) + aggregations(depth - 1, count, records))
+
+
+def with_record(form, data):
+    """A datagram with one sample of one record."""
+    return header(1) + flow_sample(1, frame(form, data))
+
+
+def with_aggregations(depth, count, records):
+    return header(1) + flow_sample(1, aggregations(depth, count, records))
+
+
+P2 = header(0)
+P3 = words(4)
+P4 = words(5, 3)
+P5 = header(1) + frame(4097, b"\1")
+P6 = P5[:-1]
+P7 = P5[:28] + words(104857601) + P5[32:]
+P9 = header(1) + counter_sample(0, b"")
+P11 = with_aggregations(1, 0, b"")
+P12 = with_aggregations(8, 0, b"")
+P12_DEEPER = with_aggregations(8, 1, b"")
+P13 = with_record(1, words(MOST, 0))
+
+IPV6 = words(2) + bytes(range(16))
+TEXT = opaque("plain, then \u00fc \u20ac \U0001f980".encode())
+LIST = words(2, 7, 8)
+
+# a payload of each kind of flow record that is opened, with every part that its layout can have; and one that stays raw
+RAW_KIND = 1017
+KINDS = {
+    1: words(1, 64, 4) + opaque(b"frame"),
+    2: words(60) + bytes(12) + words(2048),
+    3: words(1, 2, 3, 4, 5, 6, 7, 8),
+    4: words(60, 6) + bytes(32) + words(1, 2, 3, 4),
+    1001: words(1, 2, 3, 4),
+    1002: IPV6 + words(24, 16),
+    1003: IPV6 + words(1, 2, 3) + words(2) + words(1) + LIST + words(2) + LIST + LIST + words(9),
+    1004: words(106) + TEXT + words(106) + TEXT,
+    1005: words(1) + TEXT + TEXT,
+    1006: IPV6 + LIST + LIST,
+    1007: IPV6 + IPV6,
+    1008: TEXT + words(1, 2),
+    1009: TEXT + words(1, 2, 3),
+    1010: IPV6 + words(1),
+    1011: words(1),
+    1012: LIST,
+    1013: words(1) + opaque(b"payload"),
+    1014: TEXT + bytes(8) + words(1, 2) + bytes(8) + words(3, 4, 5),
+    1015: TEXT + bytes(8) + words(1, 2, 3, 4, 5) + bytes(8) + words(6),
+    1016: words(2, 0, 0),
+    RAW_KIND: b"raw",
+}
+
+
+def at_depth_8(records):
+    return with_aggregations(7, len(records), b"".join(records))
+
+
+EVERY_KIND = at_depth_8([frame(form, data) for form, data in KINDS.items()])
+# each opened kind, cut short before each of its words
+CUT_KINDS = [at_depth_8([frame(form, data[:end])]) for form, data in KINDS.items() if form != RAW_KIND for end in range(0, len(data), 4)]
