@@ -44,10 +44,15 @@ def library():
     return run([os.path.join(ROOT, "tests", "library"), "host"]).decode().strip()
 
 
+def made(folder, name):
+    """Where something that is made here goes."""
+    os.makedirs(os.path.join(TARGET, folder), exist_ok=True)
+    return os.path.join(TARGET, folder, name)
+
+
 def program(name, *options):
     """The words that run a program of this folder."""
-    path = os.path.join(TARGET, "cost", name)
-    os.makedirs(os.path.dirname(path), exist_ok=True)
+    path = made("cost", name)
     run(["cc", *FLAGS, os.path.join(COST, name + ".c"), library(), "-o", path, *options])
     return [path]
 
@@ -57,11 +62,11 @@ def x86_program(name):
     kit = os.environ.get("RATTLE_HOME") or os.path.dirname(os.path.dirname(os.path.realpath(shutil.which("rt"))))
     own = os.path.join(kit, "on", MACHINE)
     tools = os.path.join(own, "toolchain")
-    code, linked = os.path.join(TARGET, "cost", name + ".x86.o"), "cost_" + name
+    code, linked = made("cost", name + ".x86.o"), "cost_" + name
     headers = run(["cc", "-print-file-name=include"]).decode().strip()
     target = "x86_64-unknown-linux-gnu"
     compiler = [os.path.join(tools, "bin", "clang"), "--target=" + target, "-ffreestanding", "-fPIC", "-isystem", headers]
     run([*compiler, *FLAGS, "-c", os.path.join(COST, name + ".c"), "-o", code])
     linker = [os.path.join(own, "bin", "rattle-link"), "--target", target, "--toolchain", tools]
-    run([*linker, "-o", os.path.join(TARGET, "bin", linked), code, X86_ARCHIVE])
+    run([*linker, "-o", made("bin", linked), code, X86_ARCHIVE])
     return [os.path.join(ROOT, "tests", "program"), linked]
