@@ -135,8 +135,13 @@ module _ (s l : List ℕ) (pen : Pen) (o : Out Found) (g : Ready s l pen o) wher
   pub pen-more : Fits w64 (pen .next + 1)
   pen-more = record { fits = omega (arith, g .few) }
 
-abbrev behind : Pen → Pen
-behind p = a-pen (p .base) (p .base + p .next) (p .next + 1)
+-- the pen for what is inside, which has this parent
+abbrev behind : Pen → ℕ → Pen
+behind p parent = a-pen (p .base) parent (p .next + 1)
+
+-- the index of the range itself
+abbrev me : Pen → ℕ
+me p = p .base + p .next
 
 -- ---- a PDU
 module _ (left : ℕ) (s l : List ℕ) (at : ℕ) (pen : Pen) (g : Ready s l pen (follow (pdu (8 - left) (flow 8 left)) s (from at))) where
@@ -157,16 +162,17 @@ module _ (left : ℕ) (s l : List ℕ) (at : ℕ) (pen : Pen) (g : Ready s l pen
   pdu-size = ap size (pdu-at .ranges) ∙ add-zero _
 
   module _ {n : ℕ} (v : n ≡ be4 s at) where
-    pub pdu-inner : Ready s l (behind pen) (times n (follow (flow 8 left)) s (from (at + 4)))
-    pdu-inner =
+    pub pdu-inner : (parent : ℕ) → Ready s l (behind pen parent) (times n (follow (flow 8 left)) s (from (at + 4)))
+    pdu-inner parent =
         let k = pdu-size in
         rw v (record { short = g .short; good = pdu-at .inner; room = omega (arith, g .room); few = omega (arith, g .few) })
 
-    module _ {w : Written} {l′ : List ℕ} (e : written w l′ ≡ placed (behind pen) (times n (follow (flow 8 left)) s (from (at + 4))) l) where
+    -- its records were written, with any parent
+    module _ (parent : ℕ) {w : Written} {l′ : List ℕ} (e : written w l′ ≡ placed (behind pen parent) (times n (follow (flow 8 left)) s (from (at + 4))) l) where
       pdu-end : (at + 4 ≤ w .at) × (w .at ≤ length s)
       pdu-end =
-          let f = forward-times (flow 8 left) n s (at + 4) pdu-word (pdu-inner .good) in
-          let k = at-is (behind pen) _ l e in
+          let f = forward-times (flow 8 left) n s (at + 4) pdu-word (pdu-inner parent .good) in
+          let k = at-is (behind pen parent) _ l e in
           (omega (arith, f .0), omega (arith, f .1))
 
       pub pdu-forward : at + 4 ≤ w .at
@@ -176,19 +182,21 @@ module _ (left : ℕ) (s l : List ℕ) (at : ℕ) (pen : Pen) (g : Ready s l pen
       pdu-length32 = record { fits = omega (arith, pdu-end .1, g .short) }
 
       pub pdu-own : 6 * pen .next + 6 ≤ length l′
-      pdu-own = let k = pdu-size in omega (arith, g .room, put-kept (behind pen) _ l e)
+      pdu-own = let k = pdu-size in omega (arith, g .room, put-kept (behind pen parent) _ l e)
 
-      pub pdu-kept : {l″ : List ℕ} → l″ ≡ write l′ (6 * pen .next) (4 ∷ 0 ∷ (at + 4) ∷ (w .at - (at + 4)) ∷ pen .parent ∷ (8 - left) ∷ []) → length l″ ≡ length l
-      pdu-kept q = ap length q ∙ write-length _ _ _ ∙ put-kept (behind pen) _ l e
+      pub pdu-kept : {l″ : List ℕ} (ws : List ℕ) → l″ ≡ write l′ (6 * pen .next) ws → length l″ ≡ length l
+      pdu-kept ws q = ap length q ∙ write-length _ _ _ ∙ put-kept (behind pen parent) _ l e
 
+    -- its records were written, with the PDU as their parent
+    module _ {w : Written} {l′ : List ℕ} (e : written w l′ ≡ placed (behind pen (me pen)) (times n (follow (flow 8 left)) s (from (at + 4))) l) where
       pub pdu-placed : {l″ : List ℕ} → l″ ≡ write l′ (6 * pen .next) (4 ∷ 0 ∷ (at + 4) ∷ (w .at - (at + 4)) ∷ pen .parent ∷ (8 - left) ∷ [])
           → written w l″ ≡ placed pen (follow (pdu (8 - left) (flow 8 left)) s (from at)) l
       unfolding placed
       pdu-placed {l″} q =
-          let i : w .at ≡ end-of (times (be4 s at) (follow (flow 8 left)) s (from (at + 4))) = rw v at (at-is (behind pen) _ l e) in
-          let j : w .next ≡ pen .next + 1 + size (ranges-of (times (be4 s at) (follow (flow 8 left)) s (from (at + 4)))) = rw v at (next-is (behind pen) _ l e) in
+          let i : w .at ≡ end-of (times (be4 s at) (follow (flow 8 left)) s (from (at + 4))) = rw v at (at-is (behind pen (me pen)) _ l e) in
+          let j : w .next ≡ pen .next + 1 + size (ranges-of (times (be4 s at) (follow (flow 8 left)) s (from (at + 4)))) = rw v at (next-is (behind pen (me pen)) _ l e) in
           let r : Range = record { kind = 4; format = 0; span = between (at + 4) (w .at); depth = 8 - left } in
-          let k : l′ ≡ write l (6 * (pen .next + 1)) (rows (pen .base + (pen .next + 1)) (pen .base + pen .next) (ranges-of (times (be4 s at) (follow (flow 8 left)) s (from (at + 4))))) = rw v at (store-is (behind pen) _ l e) in
+          let k : l′ ≡ write l (6 * (pen .next + 1)) (rows (pen .base + (pen .next + 1)) (pen .base + pen .next) (ranges-of (times (be4 s at) (follow (flow 8 left)) s (from (at + 4))))) = rw v at (store-is (behind pen (me pen)) _ l e) in
           let t : tree r (ranges-of (times (be4 s at) (follow (flow 8 left)) s (from (at + 4)))) bare ≡ ranges-of (follow (pdu (8 - left) (flow 8 left)) s (from at)) =
           ap (λ (m : ℕ). ranged 4 0 (8 - left) (between (at + 4) m) (ranges-of (times (be4 s at) (follow (flow 8 left)) s (from (at + 4))))) i ∙ sym (pdu-at .ranges) in
           let a : w .at ≡ end-of (follow (pdu (8 - left) (flow 8 left)) s (from at)) = i ∙ sym (pdu-at .end) in
@@ -282,39 +290,42 @@ module _ (kind depth : ℕ) (body : ℕ → Script) (s l : List ℕ) (at : ℕ) 
     frame-inside = let k = frame-part in omega arith
 
     module _ {f : ℕ} (u : f ≡ be4 s at) where
-      pub frame-inner : Ready (take (at + 8 + n) s) l (behind pen) (follow (body f) (take (at + 8 + n) s) (from (at + 8)))
-      frame-inner =
+      pub frame-inner : (parent : ℕ) → Ready (take (at + 8 + n) s) l (behind pen parent) (follow (body f) (take (at + 8 + n) s) (from (at + 8)))
+      frame-inner parent =
           let k = frame-size in
           let m = frame-part in
           let h = frame-fit in
           let z : length (take (at + 8 + be4 s (at + 4)) s) ≤ 16777216 = rw (← v) (omega (arith, g .short)) in
           rw (u, v) (record { short = z; good = frame .inner; room = omega (arith, g .room); few = omega (arith, g .few) })
 
-      module _ {m : ℕ} {l′ : List ℕ} (e : filled m l′ ≡ fills (behind pen) (follow (body f) (take (at + 8 + n) s) (from (at + 8))) l) where
+      -- what it holds was written, with any parent
+      module _ (parent : ℕ) {m : ℕ} {l′ : List ℕ} (e : filled m l′ ≡ fills (behind pen parent) (follow (body f) (take (at + 8 + n) s) (from (at + 8))) l) where
         inner-next : m ≡ pen .next + 1 + size (ranges-of (follow (body (be4 s at)) (take (at + 8 + be4 s (at + 4)) s) (from (at + 8))))
         unfolding fills placed
         inner-next = rw (u, v) at (ap (λ (x : Filled). x .next) e)
 
-        inner-store : l′ ≡ write l (6 * (pen .next + 1)) (rows (pen .base + (pen .next + 1)) (pen .base + pen .next) (ranges-of (follow (body (be4 s at)) (take (at + 8 + be4 s (at + 4)) s) (from (at + 8)))))
+        inner-store : l′ ≡ write l (6 * (pen .next + 1)) (rows (pen .base + (pen .next + 1)) parent (ranges-of (follow (body (be4 s at)) (take (at + 8 + be4 s (at + 4)) s) (from (at + 8)))))
         unfolding fills placed
         inner-store = rw (u, v) at (ap (λ (x : Filled). x .store) e)
 
         pub frame-own : 6 * pen .next + 6 ≤ length l′
         frame-own = let k = frame-size in omega (arith, g .room, ap length inner-store ∙ write-length _ _ _)
 
-        module _ {l″ : List ℕ} {d : ℕ} (i : d ≡ depth) (q : l″ ≡ write l′ (6 * pen .next) (kind ∷ f ∷ (at + 8) ∷ n ∷ pen .parent ∷ d ∷ [])) where
-          pub frame-kept : length l″ ≡ length l
-          frame-kept = ap length q ∙ write-length _ _ _ ∙ ap length inner-store ∙ write-length _ _ _
+        pub frame-kept : {l″ : List ℕ} (ws : List ℕ) → l″ ≡ write l′ (6 * pen .next) ws → length l″ ≡ length l
+        frame-kept ws q = ap length q ∙ write-length _ _ _ ∙ ap length inner-store ∙ write-length _ _ _
 
+      -- what it holds was written, with the frame's range as its parent
+      module _ {m : ℕ} {l′ : List ℕ} (e : filled m l′ ≡ fills (behind pen (me pen)) (follow (body f) (take (at + 8 + n) s) (from (at + 8))) l) where
+        module _ {l″ : List ℕ} {d : ℕ} (i : d ≡ depth) (q : l″ ≡ write l′ (6 * pen .next) (kind ∷ f ∷ (at + 8) ∷ n ∷ pen .parent ∷ d ∷ [])) where
           pub frame-placed : a-put (at + 8 + n + (4 - n % 4) % 4) m l″ ≡ placed pen (follow (framed kind depth body) s (from at)) l
           unfolding placed
           frame-placed =
               let r : Range = record { kind = kind; format = be4 s at; span = record { start = at + 8; count = be4 s (at + 4) }; depth = depth } in
               let y : l″ ≡ write l′ (6 * pen .next) (kind ∷ be4 s at ∷ (at + 8) ∷ be4 s (at + 4) ∷ pen .parent ∷ depth ∷ []) = rw (u, v, i) at q in
               let a : at + 8 + n + (4 - n % 4) % 4 ≡ end-of (follow (framed kind depth body) s (from at)) = rw v (omega arith) ∙ sym (frame .end) in
-              let b : m ≡ pen .next + size (ranges-of (follow (framed kind depth body) s (from at))) = inner-next ∙ rw frame-size (omega arith) in
+              let b : m ≡ pen .next + size (ranges-of (follow (framed kind depth body) s (from at))) = inner-next (me pen) e ∙ rw frame-size (omega arith) in
               let w : l″ ≡ write l (6 * pen .next) (rows (pen .base + pen .next) (pen .parent) (ranges-of (follow (framed kind depth body) s (from at)))) =
-              own-first s l (pen .base) (pen .parent) (pen .next) r (ranges-of (follow (body (be4 s at)) (take (at + 8 + be4 s (at + 4)) s) (from (at + 8)))) inner-store y
+              own-first s l (pen .base) (pen .parent) (pen .next) r (ranges-of (follow (body (be4 s at)) (take (at + 8 + be4 s (at + 4)) s) (from (at + 8)))) (inner-store (me pen) e) y
               ∙ ap (λ (x : Forest). write l (6 * pen .next) (rows (pen .base + pen .next) (pen .parent) x)) (sym (frame .ranges)) in
               λ h. record { at = a h; next = b h; store = w h }
 
@@ -368,19 +379,20 @@ module _ (left : ℕ) (s l : List ℕ) (at : ℕ) (pen : Pen) (g : Ready s l pen
     record-inside = frame-inside 2 (8 - (left - 1)) (holds (left - 1)) s l at pen ready v
 
     module _ {f : ℕ} (u : f ≡ be4 s at) where
-      pub record-inner : Ready (take (at + 8 + n) s) l (behind pen) (follow (opened (flows (pdu (8 - (left - 1)) (flow 8 (left - 1)))) f) (take (at + 8 + n) s) (from (at + 8)))
+      pub record-inner : (parent : ℕ) → Ready (take (at + 8 + n) s) l (behind pen parent) (follow (opened (flows (pdu (8 - (left - 1)) (flow 8 (left - 1)))) f) (take (at + 8 + n) s) (from (at + 8)))
       record-inner = frame-inner 2 (8 - (left - 1)) (holds (left - 1)) s l at pen ready v u
 
-      module _ {m : ℕ} {l′ : List ℕ} (e : filled m l′ ≡ fills (behind pen) (follow (opened (flows (pdu (8 - (left - 1)) (flow 8 (left - 1)))) f) (take (at + 8 + n) s) (from (at + 8))) l) where
+      module _ (parent : ℕ) {m : ℕ} {l′ : List ℕ} (e : filled m l′ ≡ fills (behind pen parent) (follow (opened (flows (pdu (8 - (left - 1)) (flow 8 (left - 1)))) f) (take (at + 8 + n) s) (from (at + 8))) l) where
         pub record-own : 6 * pen .next + 6 ≤ length l′
-        record-own = frame-own 2 (8 - (left - 1)) (holds (left - 1)) s l at pen ready v u e
+        record-own = frame-own 2 (8 - (left - 1)) (holds (left - 1)) s l at pen ready v u parent e
 
+        pub record-kept : {l″ : List ℕ} (ws : List ℕ) → l″ ≡ write l′ (6 * pen .next) ws → length l″ ≡ length l
+        record-kept = frame-kept 2 (8 - (left - 1)) (holds (left - 1)) s l at pen ready v u parent e
+
+      module _ {m : ℕ} {l′ : List ℕ} (e : filled m l′ ≡ fills (behind pen (me pen)) (follow (opened (flows (pdu (8 - (left - 1)) (flow 8 (left - 1)))) f) (take (at + 8 + n) s) (from (at + 8))) l) where
         module _ {l″ : List ℕ} (q : l″ ≡ write l′ (6 * pen .next) (2 ∷ f ∷ (at + 8) ∷ n ∷ pen .parent ∷ (9 - left) ∷ [])) where
           same-depth : 9 - left ≡ 8 - (left - 1)
           same-depth = omega (arith, record-some)
-
-          pub record-kept : length l″ ≡ length l
-          record-kept = frame-kept 2 (8 - (left - 1)) (holds (left - 1)) s l at pen ready v u e same-depth q
 
           pub record-placed : a-put (at + 8 + n + (4 - n % 4) % 4) m l″ ≡ placed pen (follow (flow 8 left) s (from at)) l
           record-placed = frame-placed 2 (8 - (left - 1)) (holds (left - 1)) s l at pen ready v u e same-depth q ∙ ap (λ (o : Out Found). placed pen o l) (sym is)

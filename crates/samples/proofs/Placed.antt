@@ -39,12 +39,12 @@ module _ (s l : List ℕ) (at : ℕ) (pen : Pen) (g : Ready s l pen (follow coun
   raw-inside = bare-filled (follow (opened [] f) (take (at + 8 + n) s) (from (at + 8))) (a-pen (pen .base) (pen .base + pen .next) (pen .next + 1)) l refl
 
   pub counter-own : 6 * pen .next + 6 ≤ length l
-  counter-own = placing.frame-own 3 1 (opened []) s l at pen g v u raw-inside
+  counter-own = placing.frame-own 3 1 (opened []) s l at pen g v u (pen .base + pen .next) raw-inside
+
+  pub counter-kept : {l″ : List ℕ} (ws : List ℕ) → l″ ≡ write l (6 * pen .next) ws → length l″ ≡ length l
+  counter-kept = placing.frame-kept 3 1 (opened []) s l at pen g v u (pen .base + pen .next) raw-inside
 
   module _ {l″ : List ℕ} (q : l″ ≡ write l (6 * pen .next) (3 ∷ f ∷ (at + 8) ∷ n ∷ pen .parent ∷ 1 ∷ [])) where
-    pub counter-kept : length l″ ≡ length l
-    counter-kept = placing.frame-kept 3 1 (opened []) s l at pen g v u raw-inside refl q
-
     pub counter-placed : a-put (at + 8 + n + (4 - n % 4) % 4) (pen .next + 1) l″ ≡ placed pen (follow counter s (from at)) l
     counter-placed = placing.frame-placed 3 1 (opened []) s l at pen g v u raw-inside refl q
 
