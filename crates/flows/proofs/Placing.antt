@@ -315,19 +315,19 @@ module _ (kind depth : ℕ) (body : ℕ → Script) (s l : List ℕ) (at : ℕ) 
         frame-kept ws q = ap length q ∙ write-length _ _ _ ∙ ap length inner-store ∙ write-length _ _ _
 
       -- what it holds was written, with the frame's range as its parent
-      module _ {m : ℕ} {l′ : List ℕ} (e : filled m l′ ≡ fills (behind pen (me pen)) (follow (body f) (take (at + 8 + n) s) (from (at + 8))) l) where
-        module _ {l″ : List ℕ} {d : ℕ} (i : d ≡ depth) (q : l″ ≡ write l′ (6 * pen .next) (kind ∷ f ∷ (at + 8) ∷ n ∷ pen .parent ∷ d ∷ [])) where
-          pub frame-placed : a-put (at + 8 + n + (4 - n % 4) % 4) m l″ ≡ placed pen (follow (framed kind depth body) s (from at)) l
-          unfolding placed
-          frame-placed =
-              let r : Range = record { kind = kind; format = be4 s at; span = record { start = at + 8; count = be4 s (at + 4) }; depth = depth } in
-              let y : l″ ≡ write l′ (6 * pen .next) (kind ∷ be4 s at ∷ (at + 8) ∷ be4 s (at + 4) ∷ pen .parent ∷ depth ∷ []) = rw (u, v, i) at q in
-              let a : at + 8 + n + (4 - n % 4) % 4 ≡ end-of (follow (framed kind depth body) s (from at)) = rw v (omega arith) ∙ sym (frame .end) in
-              let b : m ≡ pen .next + size (ranges-of (follow (framed kind depth body) s (from at))) = inner-next (me pen) e ∙ rw frame-size (omega arith) in
-              let w : l″ ≡ write l (6 * pen .next) (rows (pen .base + pen .next) (pen .parent) (ranges-of (follow (framed kind depth body) s (from at)))) =
-              own-first s l (pen .base) (pen .parent) (pen .next) r (ranges-of (follow (body (be4 s at)) (take (at + 8 + be4 s (at + 4)) s) (from (at + 8)))) (inner-store (me pen) e) y
-              ∙ ap (λ (x : Forest). write l (6 * pen .next) (rows (pen .base + pen .next) (pen .parent) x)) (sym (frame .ranges)) in
-              λ h. record { at = a h; next = b h; store = w h }
+      module _ {m : ℕ} {l′ : List ℕ} (e : filled m l′ ≡ fills (behind pen (me pen)) (follow (body f) (take (at + 8 + n) s) (from (at + 8))) l)
+          {l″ : List ℕ} {d : ℕ} (i : d ≡ depth) (q : l″ ≡ write l′ (6 * pen .next) (kind ∷ f ∷ (at + 8) ∷ n ∷ pen .parent ∷ d ∷ [])) where
+        pub frame-placed : a-put (at + 8 + n + (4 - n % 4) % 4) m l″ ≡ placed pen (follow (framed kind depth body) s (from at)) l
+        unfolding placed
+        frame-placed =
+            let r : Range = record { kind = kind; format = be4 s at; span = record { start = at + 8; count = be4 s (at + 4) }; depth = depth } in
+            let y : l″ ≡ write l′ (6 * pen .next) (kind ∷ be4 s at ∷ (at + 8) ∷ be4 s (at + 4) ∷ pen .parent ∷ depth ∷ []) = rw (u, v, i) at q in
+            let a : at + 8 + n + (4 - n % 4) % 4 ≡ end-of (follow (framed kind depth body) s (from at)) = rw v (omega arith) ∙ sym (frame .end) in
+            let b : m ≡ pen .next + size (ranges-of (follow (framed kind depth body) s (from at))) = inner-next (me pen) e ∙ rw frame-size (omega arith) in
+            let w : l″ ≡ write l (6 * pen .next) (rows (pen .base + pen .next) (pen .parent) (ranges-of (follow (framed kind depth body) s (from at)))) =
+            own-first s l (pen .base) (pen .parent) (pen .next) r (ranges-of (follow (body (be4 s at)) (take (at + 8 + be4 s (at + 4)) s) (from (at + 8)))) (inner-store (me pen) e) y
+            ∙ ap (λ (x : Forest). write l (6 * pen .next) (rows (pen .base + pen .next) (pen .parent) x)) (sym (frame .ranges)) in
+            λ h. record { at = a h; next = b h; store = w h }
 
 -- ---- a flow record: a frame, where a level is left
 module _ (left : ℕ) (s l : List ℕ) (at : ℕ) (pen : Pen) (g : Ready s l pen (follow (flow 8 left) s (from at))) where
@@ -389,13 +389,13 @@ module _ (left : ℕ) (s l : List ℕ) (at : ℕ) (pen : Pen) (g : Ready s l pen
         pub record-kept : {l″ : List ℕ} (ws : List ℕ) → l″ ≡ write l′ (6 * pen .next) ws → length l″ ≡ length l
         record-kept = frame-kept 2 (8 - (left - 1)) (holds (left - 1)) s l at pen ready v u parent e
 
-      module _ {m : ℕ} {l′ : List ℕ} (e : filled m l′ ≡ fills (behind pen (me pen)) (follow (opened (flows (pdu (8 - (left - 1)) (flow 8 (left - 1)))) f) (take (at + 8 + n) s) (from (at + 8))) l) where
-        module _ {l″ : List ℕ} (q : l″ ≡ write l′ (6 * pen .next) (2 ∷ f ∷ (at + 8) ∷ n ∷ pen .parent ∷ (9 - left) ∷ [])) where
-          same-depth : 9 - left ≡ 8 - (left - 1)
-          same-depth = omega (arith, record-some)
+      module _ {m : ℕ} {l′ : List ℕ} (e : filled m l′ ≡ fills (behind pen (me pen)) (follow (opened (flows (pdu (8 - (left - 1)) (flow 8 (left - 1)))) f) (take (at + 8 + n) s) (from (at + 8))) l)
+          {l″ : List ℕ} (q : l″ ≡ write l′ (6 * pen .next) (2 ∷ f ∷ (at + 8) ∷ n ∷ pen .parent ∷ (9 - left) ∷ [])) where
+        same-depth : 9 - left ≡ 8 - (left - 1)
+        same-depth = omega (arith, record-some)
 
-          pub record-placed : a-put (at + 8 + n + (4 - n % 4) % 4) m l″ ≡ placed pen (follow (flow 8 left) s (from at)) l
-          record-placed = frame-placed 2 (8 - (left - 1)) (holds (left - 1)) s l at pen ready v u e same-depth q ∙ ap (λ (o : Out Found). placed pen o l) (sym is)
+        pub record-placed : a-put (at + 8 + n + (4 - n % 4) % 4) m l″ ≡ placed pen (follow (flow 8 left) s (from at)) l
+        record-placed = frame-placed 2 (8 - (left - 1)) (holds (left - 1)) s l at pen ready v u e same-depth q ∙ ap (λ (o : Out Found). placed pen o l) (sym is)
 
 pub one-less : {left : ℕ} → left ≤ 8 → left - 1 ≤ 8
 one-less h = omega arith

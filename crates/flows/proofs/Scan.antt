@@ -120,20 +120,25 @@ module _ (s : List ℕ) (c : Cursor) {r : Frame} (e : frame-out r ≡ frame-at s
   lies : Framed-at s (place c) (span x) (place d)
   lies = framing-lies s (place c) (rw h at e)
 
-  pub frame-fits : length s < 2 ^ 64 → Fits w64 (x .start + x .count)
-  frame-fits l = let y = lies in record { fits = omega (arith, y .end, y .fits) }
+  pub frame-ends : x .start + x .count ≤ length s
+  frame-ends = let y = lies in omega (arith, y .end, y .fits)
 
-  pub frame-part : x .start + x .count ≡ length (take (x .start + x .count) s)
-  frame-part = let y = lies in sym (length-take-le (x .start + x .count) s (omega (arith, y .end, y .fits)))
+  pub frame-fits : length s < 2 ^ 64 → Fits w64 (x .start + x .count)
+  frame-fits l = record { fits = omega (arith, frame-ends) }
 
   pub frame-counts : (k : ℕ) → Scan s c k → length s < 2 ^ 64 → Fits w64 (k + 1)
   frame-counts k g l = let y = lies in record { fits = omega (arith, y .start, y .end, y .fits, g .few) }
 
-  pub frame-scan : (k : ℕ) → Scan s c k → Scan (take (x .start + x .count) s) (record { at = x .start; steps = d .steps }) (k + 1)
-  frame-scan k g =
-      let y = lies in
-      let z = frame-part in
-      record { inside = omega arith; counted = omega (arith, y .start, y .steps, g .counted); few = omega (arith, y .start, g .few) }
+  -- the payload can be scanned in any part of the input that has it
+  module _ (m : ℕ) (i : m ≤ length s) where
+    pub frame-part : m ≡ length (take m s)
+    frame-part = sym (length-take-le m s i)
+
+    pub frame-scan : (k : ℕ) → x .start + x .count ≤ m → Scan s c k → Scan (take m s) (record { at = x .start; steps = d .steps }) (k + 1)
+    frame-scan k j g =
+        let y = lies in
+        let z = frame-part in
+        record { inside = omega arith; counted = omega (arith, y .start, y .steps, g .counted); few = omega (arith, y .start, g .few) }
 
 abbrev holds : ℕ → ℕ → Script
 holds left f = opened (flows (pdu (8 - left) (flow 8 left))) f

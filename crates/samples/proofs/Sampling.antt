@@ -29,7 +29,7 @@ use Rattle.flows.specs.declared.frames.Scanned.{Scanned}
 use Rattle.flows.specs.declared.frames.Scanned.the-variants as scanned
 use Rattle.flows.specs.Scanned.{Scan, frame-out, scanned-out}
 use Rattle.flows.proofs.Chain.{within-start}
-use Rattle.flows.proofs.Scan.{scan-inside, Thrift, scan-on, scan-done, scan-turn, scan-stop, frame-fits, frame-part, frame-counts, frame-scan}
+use Rattle.flows.proofs.Scan.{scan-inside, Thrift, scan-on, scan-done, scan-turn, scan-stop, frame-ends, frame-fits, frame-part, frame-counts, frame-scan}
 use Rattle.samples.specs.Held.{Counted, on, over, rest-of}
 
 pub counter-thrift : Thrift counter
@@ -111,6 +111,7 @@ pub ruleset sampling = (
   scan-done,
   scan-turn,
   scan-stop,
+  frame-ends,
   frame-fits,
   frame-part,
   frame-counts,

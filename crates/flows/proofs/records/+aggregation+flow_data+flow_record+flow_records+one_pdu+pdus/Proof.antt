@@ -134,6 +134,7 @@ ruleset scanning = (
   scan.pdu-full,
   scan.word-scan,
   scan.word-counts,
+  scan.frame-ends,
   scan.frame-fits,
   scan.frame-part,
   scan.frame-counts,
