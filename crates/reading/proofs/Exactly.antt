@@ -1,15 +1,15 @@
 -- Demand 2 of the definitions, for one datagram: the cursor accepts exactly when a reading exists, and answers that reading. Assumes nothing.
-use Prim.Native.Nat.{ℕ, _+_}
+use Prim.Native.Nat.{ℕ, _+_, _≤_}
 use mathlib.Core.Path.{_≡_, sym, ap, subst, _∙_}
-use mathlib.Core.List.{List, _++_}
+use mathlib.Core.List.{List, [], _++_}
 use native.Mathlib.Omega.{arith}
 use native.Mathlib.Nat.{zero-add}
-use lib.ListN.{length, length-append}
-use Rattle.reading.specs.Script.{Found}
+use lib.ListN.{length, take, length-append}
+use Rattle.reading.specs.Script.{Found, Script}
 use Rattle.reading.specs.Cursor.{Place, got, follow}
 use Rattle.reading.specs.Grammar.{Is}
 use Rattle.reading.specs.Layout.{datagram}
-use Rattle.reading.proofs.Stands.{place}
+use Rattle.reading.proofs.Stands.{place, held}
 use Rattle.reading.proofs.Complete.{complete}
 use Rattle.reading.proofs.Sound.{sound}
 
@@ -37,3 +37,11 @@ one-reading s f g n m k l a b =
     let e : got f (place n k) ≡ got g (place m l) = sym (read-is-accepted s f n k a) ∙ read-is-accepted s g m l b in
     let p : place n k ≡ place m l = cc in
     (cc, ap (λ (q : Place). q .at) p, ap (λ (q : Place). q .steps) p)
+
+-- what was read is read alike where the input ends behind it
+pub ended : (sc : Script) (s : List ℕ) (p : Place) {a : Found} {q : Place} → p .at ≤ length s → follow sc s p ≡ got a q → follow sc (take (q .at) s) p ≡ got a q
+ended sc s p {a} {q} i e =
+    let r = sound sc s p a q i e in
+    let c : follow sc (take (p .at + length (r .read)) s) p ≡ got a (place (p .at + length (r .read)) (p .steps + r .items)) = complete sc _ (r .read) [] a (p .at) (p .steps) (r .items) (r .is) (held (p .at) (r .stands)) in
+    let z : place (p .at + length (r .read)) (p .steps + r .items) ≡ q = λ j. record { at = sym (r .at) j; steps = sym (r .steps) j } in
+    ap (λ (n : ℕ). follow sc (take n s) p) (r .at) ∙ c ∙ ap (λ (x : Place). got a x) z

@@ -18,3 +18,5 @@ pub mod Sound
 pub mod Exactly
 pub mod Faults
 pub mod Codes
+pub mod Holding
+pub mod Readable

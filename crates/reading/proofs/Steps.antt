@@ -1,6 +1,6 @@
 -- What a script finds, and where it ends or is refused, does not hang on the steps before it. Assumes nothing.
 use Prim.Native.Nat.{ℕ, zero, suc, _+_}
-use mathlib.Core.Path.{_≡_, refl}
+use mathlib.Core.Path.{_≡_, refl, sym, ap, _∙_}
 use mathlib.Core.Bool.{Bool, true, false, cond}
 use mathlib.Core.List.{List}
 use lib.Dec.{leb}
@@ -9,6 +9,7 @@ use Rattle.reading.specs.Bytes.{be4, padded}
 use Rattle.reading.specs.Utf8.{utf8}
 use Rattle.reading.specs.Script.{octet-count, Span, Found, Item, word, tested, long, int, block, opaque, string, Script, give, refuse, here, item, within, repeat}
 use Rattle.reading.specs.Cursor.{Place, Out, got, stop, Reader, then, on, fixed, max-opaque, bytes, read-opaque, read-item, times, inside, follow}
+use Rattle.reading.proofs.Items.{never}
 use Rattle.reading.proofs.Stands.{place}
 
 -- alike but for the steps
@@ -80,3 +81,14 @@ steady (repeat n body k) s p q e = alike-then _ _ (alike-times (follow body) s (
 
 pub steady-times : (sc : Script) (s : List ℕ) (n : ℕ) → Steady (times n (follow sc) s)
 steady-times sc s n = alike-times (follow sc) s (steady sc s) n
+
+-- what was accepted from one place is accepted from another, at the same position
+pub unstepped : (sc : Script) (s : List ℕ) (p q : Place) {a : Found} {e : Place} → p .at ≡ q .at → follow sc s p ≡ got a e → (i : Place) × (follow sc s q ≡ got a i) × (i .at ≡ e .at)
+unstepped sc s p q {a} {e} h g = go (steady sc s p q h) g
+  where
+    go : {o u : Out Found} → Alike o u → o ≡ got a e → (i : Place) × (u ≡ got a i) × (i .at ≡ e .at)
+    go (both-got {a = b} {p = x} {q = y} k) z =
+        let m : b ≡ a = cc in
+        let n : x ≡ e = cc in
+        (y, ap (λ (c : Found). got c y) m, sym k ∙ ap (λ (t : Place). t .at) n)
+    go both-stop z = never z
