@@ -20,3 +20,4 @@ pub mod Faults
 pub mod Codes
 pub mod Holding
 pub mod Readable
+pub mod Descriptors
