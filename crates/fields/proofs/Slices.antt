@@ -1,11 +1,11 @@
 -- Parts of the input: a payload, a list's words, an AS path's segments. Assumes nothing.
 use Prim.Native.Nat.{ℕ, _+_, _*_, _-_, _/_, _^_, _≤_, _<_}
 use mathlib.Core.Path.{_≡_, refl, ap, _∙_}
-use mathlib.Core.Bool.{true, false}
-use mathlib.Core.List.{List, []}
+use mathlib.Core.Bool.{Bool, true, false, cond}
+use mathlib.Core.List.{List}
 use native.Mathlib.Omega.{arith}
 use borrow.Author.Needs.{needs}
-use borrow.Author.Tests.{le-leb, lt-leb}
+use borrow.Author.Tests.{le-leb, lt-leb, leb-true}
 use lib.Dec.{leb}
 use lib.ListN.{length, take, drop}
 use mir.Syntax.{w64}
@@ -14,31 +14,52 @@ use Rattle.reading.specs.Bytes.{be4}
 use Rattle.reading.specs.Script.{Value}
 use Rattle.reading.specs.Cursor.{stop}
 use Rattle.reading.specs.Values.{valued}
-use Rattle.reading.specs.Answer.{answered, payload, list-word, segment-fields, segment-at}
+use Rattle.reading.specs.Answer.{answered, no-span, payload-span, payload, list-word, segment-fields, segment-at}
 use Rattle.xdr.specs.declared.Outcome.{Outcome}
+use Rattle.xdr.specs.declared.Span.{Span}
 use Rattle.xdr.specs.declared.Passed.{Passed}
 use Rattle.xdr.specs.declared.Passed.the-variants as passed
-use Rattle.xdr.specs.Shown.{answer-of, Answers}
+use Rattle.xdr.specs.Shown.{span, answer-of, Answers}
 use Rattle.flows.specs.Chain.{Within, inside, over}
 use Rattle.fields.specs.Shown.{unread, Begins}
 
 -- ---- the payload
 
 module _ (s : List ℕ) (start extent : ℕ) where
-  pub payload-long : 16777216 < length s → [] ≡ payload s start extent
-  unfolding payload
+  pub payload-long : 16777216 < length s → no-span ≡ payload-span s start extent
+  unfolding payload-span
   payload-long h = rw (lt-leb (length s) 16777216 h)
 
   module _ (h : length s ≤ 16777216) where
-    pub payload-far : length s < start + extent → [] ≡ payload s start extent
-    unfolding payload
+    pub payload-far : length s < start + extent → no-span ≡ payload-span s start extent
+    unfolding payload-span
     payload-far l = rw (le-leb (length s) 16777216 h, lt-leb (start + extent) (length s) l)
 
-    pub payload-there : start + extent ≤ length s → take (start + extent - start) (drop start s) ≡ payload s start extent
+    pub payload-there : start + extent ≤ length s → record { start = start; count = extent } ≡ payload-span s start extent
+    unfolding payload-span
+    payload-there l = rw (le-leb (length s) 16777216 h, le-leb (start + extent) (length s) l)
+
+  payload-lies : payload-span s start extent .start + payload-span s start extent .count ≤ length s
+  unfolding payload-span
+  payload-lies = go (leb (length s) 16777216) (leb (start + extent) (length s)) refl
+    where
+      go : (a b : Bool) → leb (start + extent) (length s) ≡ b → cond a (cond b (record { start = start; count = extent }) no-span) no-span .start + cond a (cond b (record { start = start; count = extent }) no-span) no-span .count ≤ length s
+      go true true e = leb-true (start + extent) (length s) e
+      go true false e = omega arith
+      go false b e = omega arith
+
+  module _ {x : Span} (e : span x ≡ payload-span s start extent) where
+    pub payload-inside : x .start + x .count ≤ length s
+    payload-inside = rw (← e) at payload-lies
+
+    pub payload-fits : length s < 2 ^ 64 → Fits w64 (x .start + x .count)
+    payload-fits l = record { fits = omega (arith, payload-inside) }
+
+    pub payload-part : take (x .start + x .count - x .start) (drop (x .start) s) ≡ payload s start extent
     unfolding payload
-    payload-there l =
-        let e : start + extent - start ≡ extent = omega arith in
-        rw (le-leb (length s) 16777216 h, le-leb (start + extent) (length s) l, e)
+    payload-part =
+        let n : x .start + x .count - x .start ≡ x .count = omega arith in
+        rw (n, ← e)
 
 -- ---- a word of a list
 
@@ -95,4 +116,4 @@ module _ {s : List ℕ} {at : ℕ} {p : Passed} (b : Begins s at p) where
   pub segment-so : {o : Outcome} {vs : List Value} → Answers segment-fields s p o vs → answer-of o vs ≡ segment-at s at
   segment-so a = a .is ∙ b .is
 
-pub ruleset parts = (payload-long, payload-far, payload-there, list-short, list-far, list-cut, list-there, word-there, begins-long, begins-far, begins-there, begins-within, segment-so, needs)
+pub ruleset parts = (payload-long, payload-far, payload-there, payload-inside, payload-fits, payload-part, list-short, list-far, list-cut, list-there, word-there, begins-long, begins-far, begins-there, begins-within, segment-so, needs)

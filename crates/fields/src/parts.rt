@@ -1,7 +1,7 @@
 // Parts of the input that an answer names: a payload, the words of a list, the segments of an AS path.
 ghost use mathlib.Core.Path.{_≡_};
-ghost use Rattle.reading.specs.Answer.{payload, list-word, segment-at};
-ghost use Rattle.xdr.specs.Shown.{answer-of};
+ghost use Rattle.reading.specs.Answer.{payload-span, payload, list-word, segment-at};
+ghost use Rattle.xdr.specs.Shown.{span, answer-of};
 ghost use Rattle.flows.specs.Shown.{a-segment};
 ghost use Rattle.fields.specs.Shown.{listed, Begins};
 use crate::ask::unread;
@@ -12,19 +12,31 @@ use xdr::Passed;
 use xdr::Span;
 use xdr::load;
 
-// A descriptor's payload, as that part of the caller's buffer. It is empty where a field reading would refuse the range.
+// Where a descriptor's payload lies. It is empty where a field reading would refuse the range.
+pub fn payload_span(s: &[u8], d: Descriptor) -> Span
+    ensures { λ r. ⌜ span r ≡ payload-span (now (s .entry)) (d .start) (d .length) ⌝ }
+{
+    let start = d.start as usize;
+    let count = d.length as usize;
+    if 16777216 < s.len() {
+        return Span { start: 0, count: 0 };
+    }
+    if s.len() < start + count {
+        return Span { start: 0, count: 0 };
+    }
+    Span {
+        start: start,
+        count: count,
+    }
+}
+
+// A descriptor's payload, as that part of the caller's buffer.
 pub fn payload(s: &[u8], d: Descriptor) -> &[u8]
     ensures { λ r. ⌜ now r ≡ payload (now (s .entry)) (d .start) (d .length) ⌝ }
 {
-    if 16777216 < s.len() {
-        return &s[..0];
-    }
-    let start = d.start as usize;
-    let end = start + d.length as usize;
-    if s.len() < end {
-        return &s[..0];
-    }
-    &s[start..end]
+    let x = payload_span(s, d);
+    let start = x.start;
+    &s[start..start + x.count]
 }
 
 // A word of a list, if there is one.

@@ -6,7 +6,7 @@ use lib.ListN.{length, take, drop, getD}
 use lib.Dec.{eqb, leb}
 use Rattle.reading.specs.Bytes.{be4}
 use Rattle.reading.specs.Utf8.{_&_}
-use Rattle.reading.specs.Script.{Value, number, integer, octets, address, part, Forest, bare, tree, _⊕_, Found, nothing, give}
+use Rattle.reading.specs.Script.{Span, Value, number, integer, octets, address, part, Forest, bare, tree, _⊕_, Found, nothing, give}
 use Rattle.reading.specs.Cursor.{Place, Out, got, stop, Reader, then, follow}
 use Rattle.reading.specs.Layout.{num, oct, Field, list, Row, words, only, flows, samples, header, depth-limit, datagram}
 use Rattle.reading.specs.Values.{zeros, Reading, valued, reading}
@@ -168,6 +168,9 @@ read ak af s k f start extent = answered (limited s
 
 -- ---- what is answered as start and count
 
+abbrev pub no-span : Span
+no-span = record { start = 0; count = 0 }
+
 pub record Listed : Type 0 where
   pub present : Bool
   pub value : ℕ
@@ -191,6 +194,10 @@ segment-at s at = answered (limited s
 
 -- ---- the payload
 
--- a descriptor's part of the input, and none where codes 1 or 10 would apply
+-- where a descriptor's payload lies, and an empty range where codes 1 or 10 would apply
+unfoldable pub payload-span : (input : List ℕ) → (start extent : ℕ) → Span
+payload-span s start extent = limited s (cond (leb (start + extent) (length s)) (record { start = start; count = extent }) no-span) no-span
+
+-- that part of the input
 unfoldable pub payload : (input : List ℕ) → (start extent : ℕ) → List ℕ
-payload s start extent = limited s (cond (leb (start + extent) (length s)) (take extent (drop start s)) []) []
+payload s start extent = take (payload-span s start extent .count) (drop (payload-span s start extent .start) s)

@@ -6,15 +6,10 @@ pub payload-spec : {M : Type 1} → statement M
 payload-spec =
     tie.close
     (tie.spec
-    (λ c. search parts)  -- slice-aggregate-result
-    (λ c. search parts)  -- returns
-    (λ c. search parts)  -- cast-start
-    (λ c. search parts)  -- cast-end
-    (λ c. search parts)  -- add-end
-    (λ c. search parts)  -- slice-aggregate-result-2
-    (λ c. search parts)  -- returns-2
+    (λ c κs. search parts)  -- payload-span-requires
+    (λ c. search parts)  -- add-result
     (λ c. search parts)  -- sub-result
     (λ c. search parts)  -- part-result-start
     (λ c. search parts)  -- part-result-end
-    (λ c. search parts)  -- returns-3
+    (λ c. search parts)  -- returns
     )

@@ -1,0 +1,11 @@
+use Rattle.host.proofs.Words.{words}
+use Rattle.host.proofs.read.latchplume_read_extended_80211_payload.Statement.{statement}
+use Rattle.host.proofs.read.latchplume_read_extended_80211_payload.Tie as tie
+
+pub latchplume-read-extended-80211-payload-spec : {M : Type 1} → statement M
+latchplume-read-extended-80211-payload-spec =
+    tie.close (tie.spec
+    (λ c κs. search words)  -- descriptor-requires
+    (λ c κs. search words)  -- extended-80211-payload-requires
+    (λ c. search words)  -- returns
+    )

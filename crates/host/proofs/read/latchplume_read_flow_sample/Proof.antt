@@ -1,0 +1,11 @@
+use Rattle.host.proofs.Words.{words}
+use Rattle.host.proofs.read.latchplume_read_flow_sample.Statement.{statement}
+use Rattle.host.proofs.read.latchplume_read_flow_sample.Tie as tie
+
+pub latchplume-read-flow-sample-spec : {M : Type 1} → statement M
+latchplume-read-flow-sample-spec =
+    tie.close (tie.spec
+    (λ c κs. search words)  -- descriptor-requires
+    (λ c κs. search words)  -- flow-sample-requires
+    (λ c. search words)  -- returns
+    )

@@ -1,0 +1,11 @@
+use Rattle.host.proofs.Words.{words}
+use Rattle.host.proofs.read.latchplume_read_header.Statement.{statement}
+use Rattle.host.proofs.read.latchplume_read_header.Tie as tie
+
+pub latchplume-read-header-spec : {M : Type 1} → statement M
+latchplume-read-header-spec =
+    tie.close (tie.spec
+    (λ c κs. search words)  -- descriptor-requires
+    (λ c κs. search words)  -- header-requires
+    (λ c. search words)  -- returns
+    )

@@ -1,0 +1,18 @@
+// A descriptor as a C host hands it over: a pointer to its six words in the store.
+ghost use mathlib.Core.Path.{_≡_};
+ghost use Rattle.host.specs.Shown.{descriptor-of};
+use flows::put::Descriptor;
+use numbers::DataFormat;
+
+pub fn descriptor(w: &[u32; 6]) -> Descriptor
+    ensures { λ r. ⌜ r ≡ descriptor-of (now (w .entry)) ⌝ }
+{
+    Descriptor {
+        kind: w[0],
+        format: DataFormat(w[1]),
+        start: w[2],
+        length: w[3],
+        parent: w[4],
+        depth: w[5],
+    }
+}
