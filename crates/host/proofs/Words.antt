@@ -1,6 +1,6 @@
 -- A descriptor that is handed over by its words. Assumes nothing.
 use Prim.Native.Nat.{ℕ}
-use mathlib.Core.Path.{_≡_, _∙_, ap}
+use mathlib.Core.Path.{_≡_}
 use mathlib.Core.List.{List}
 use borrow.Author.Needs.{needs}
 use lib.ListN.{getD}
@@ -8,13 +8,13 @@ use Rattle.reading.specs.Script as script
 use Rattle.reading.specs.Answer.{Fields, payload-span}
 use Rattle.flows.specs.declared.put.Descriptor.{Descriptor}
 use Rattle.fields.specs.Shown.{read-of}
-use Rattle.host.specs.Shown.{descriptor-of, read-at}
+use Rattle.host.specs.Shown.{Has-words, read-at}
 
-module _ {s w : List ℕ} {d : Descriptor} (e : d ≡ descriptor-of w) where
-  pub by-words : {k f : ℕ} {x : Fields} → x ≡ read-of k f s d → x ≡ read-at k f s w
-  by-words {k} {f} h = h ∙ ap (read-of k f s) e
+module _ (s w : List ℕ) (d : Descriptor) (e : Has-words w d) where
+  pub by-words : (k f : ℕ) {x : Fields} → x ≡ read-of k f s d → x ≡ read-at k f s w
+  by-words k f h = rw (← e .kind, ← e .format, ← e .start, ← e .extent) h
 
   pub span-by-words : {x : script.Span} → x ≡ payload-span s (d .start) (d .length) → x ≡ payload-span s (getD w 2 0) (getD w 3 0)
-  span-by-words h = h ∙ ap (λ (i : Descriptor). payload-span s (i .start) (i .length)) e
+  span-by-words h = rw (← e .start, ← e .extent) h
 
 pub ruleset words = (by-words, span-by-words, needs)

@@ -1,11 +1,10 @@
 // A descriptor as a C host hands it over: a pointer to its six words in the store.
-ghost use mathlib.Core.Path.{_≡_};
-ghost use Rattle.host.specs.Shown.{descriptor-of};
+ghost use Rattle.host.specs.Shown.{Has-words};
 use flows::put::Descriptor;
 use numbers::DataFormat;
 
 pub fn descriptor(w: &[u32; 6]) -> Descriptor
-    ensures { λ r. ⌜ r ≡ descriptor-of (now (w .entry)) ⌝ }
+    ensures { λ r. ⌜ Has-words (now (w .entry)) r ⌝ }
 {
     Descriptor {
         kind: w[0],
