@@ -42,19 +42,24 @@ def times(command, call, code, small, big):
     return [tuple(map(float, line.split())) for line in rounds]
 
 
-def long_figures(count, pool):
+def timed_figure(time, call, code, shape):
+    rounds = times(time, call, code, shape(MIB), shape(16 * MIB))
+    in_time = median(big / side for big, side, _ in rounds)
+    cached = median(big / in_place for big, _, in_place in rounds)
+    return in_time <= MOST, f", {in_time:.2f} in time ({cached:.2f} against 1 MiB in the caches)"
+
+
+def long_figures(count, pool, timed):
     def ratio(case):
         _, call, code, shape = case
         small, big = (instructions(count, call, code, shape(size)) for size in (MIB, 16 * MIB))
         return big / small
 
     time = build.program("time")
-    for (name, call, code, shape), in_instructions in zip(LONG, list(pool.map(ratio, LONG))):
-        rounds = times(time, call, code, shape(MIB), shape(16 * MIB))
-        in_time = median(big / side for big, side, _ in rounds)
-        cached = median(big / in_place for big, _, in_place in rounds)
-        text = f"{in_instructions:.2f} in instructions, {in_time:.2f} in time, at most {MOST} ({cached:.2f} against 1 MiB in the caches)"
-        yield in_instructions <= MOST and in_time <= MOST, f"16 MiB over 1 MiB, {name}: {text}"
+    for (name, call, code, shape), ratio_found in zip(LONG, list(pool.map(ratio, LONG))):
+        met, said = timed_figure(time, call, code, shape) if timed else (True, "")
+        text = f"{ratio_found:.2f} in instructions{said}, at most {MOST}"
+        yield ratio_found <= MOST and met, f"16 MiB over 1 MiB, {name}: {text}"
 
 
 def list_figures(count, pool):
@@ -67,8 +72,8 @@ def list_figures(count, pool):
     yield eight - one < 7, f"a row of one word and one of eight: {one} and {eight} instructions, less than 7 more"
 
 
-def figures():
+def figures(timed):
     count = build.program("count")
     with ThreadPoolExecutor(os.cpu_count()) as pool:
         yield from list_figures(count, pool)
-        yield from long_figures(count, pool)
+        yield from long_figures(count, pool, timed)

@@ -5,10 +5,9 @@ use mathlib.Core.List.{List, [], _∷_, _++_, append-nil}
 use Prim.Native.Nat.{ℕ, zero, suc, _+_, _*_, _≤_, _<_}
 use native.Mathlib.Omega.{arith}
 use borrow.Author.Needs.{needs}
-use borrow.Author.Tests.{eqb-true, eqb-false}
-use lib.Dec.{eqb}
-use lib.ListN.{length, take, drop, getD, set, replicate, take-append-drop, length-set}
-use lib.Seq.{take-take, getD-set-same, getD-set-other}
+use borrow.Author.Tests.{le-leb, lt-leb}
+use lib.ListN.{length, take, drop, getD, take-append-drop}
+use lib.Seq.{take-take}
 use Rattle.reading.specs.Bytes.{be4}
 use Rattle.reading.specs.Script.{Width, six, eight, sixteen, Value, number, octets, part, nothing, Item, word, long, opaque, string}
 use Rattle.reading.specs.Cursor.{got, read-item, times, follow}
@@ -35,7 +34,7 @@ use Rattle.xdr.proofs.Rows.{reads-inside, words-inside}
 use Rattle.flows.specs.declared.lists.Ranged.{Ranged}
 use Rattle.flows.specs.declared.next.Kind.{Kind}
 use Rattle.flows.specs.declared.next.Kind.the-variants as kind
-use Rattle.flows.specs.Chain.{Within, inside, over, Then, goes, halts, stays, loaded-from, loaded, field-of, no-range, range-of}
+use Rattle.flows.specs.Chain.{Within, inside, over, Then, goes, halts, stays, loaded-from, loaded, word-of, field-of, no-range, range-of}
 
 -- the fields l, read on from p, end so, whatever they give
 pub data Ends (l : List Field) (s : List ℕ) (p q : Passed) : Type 0 where
@@ -160,19 +159,6 @@ pub record Loaded (i : ℕ) (s : List ℕ) (at : ℕ) (w : List ℕ) : Type 0 wh
   pub each : (j : ℕ) → j < i → getD w j 0 ≡ be4 s (at + 4 * j)
 
 module _ (s : List ℕ) (at : ℕ) where
-  pub load-none : Loaded 0 s at (replicate 8 0)
-  load-none = record { size = refl; each = λ j l. absurd (omega arith) }
-
-  pub load-more : {i n v : ℕ} {w : List ℕ} → Loaded i s at w → i < n → n ≤ 8 → v ≡ be4 s (at + 4 * i) → Loaded (i + 1) s at (set w i v)
-  load-more {i} {n} {v} {w} r l m e = record {
-    size = simp length-set (r .size);
-    each = λ j h. go j (eqb j i) refl h;
-  }
-    where
-      go : (j : ℕ) (t : Bool) → eqb j i ≡ t → j < i + 1 → getD (set w i v) j 0 ≡ be4 s (at + 4 * j)
-      go j true t h = let z : j ≡ i = eqb-true j i t in rw z (getD-set-same w i v 0 (omega (arith, r .size)) ∙ e)
-      go j false t h = getD-set-other w i j v 0 (eqb-false j i t) ∙ r .each j (omega (arith, eqb-false j i t))
-
   loads-from : (k m i : ℕ) (w : List ℕ) → Loaded i s at w → m + k ≤ i → loaded-from k w m ≡ numbers-from k s at (4 * m)
   loads-from zero m i w r l = refl
   loads-from (suc k) m i w r l =
@@ -184,6 +170,33 @@ module _ (s : List ℕ) (at : ℕ) where
   load-all (suc n) i w r l =
       let z : at + 4 * 0 ≡ at = omega arith in
       same-numbers (r .each 0 (omega arith) ∙ ap (λ (j : ℕ). be4 s j) z) (loads-from n 1 i w r (omega arith))
+
+  -- each of eight, one by one
+  pub load-each : (n : ℕ) {a b c d e f g h : ℕ} → n ≤ 8 → a ≡ word-of n s at 0 → b ≡ word-of n s at 1 → c ≡ word-of n s at 2 → d ≡ word-of n s at 3
+      → e ≡ word-of n s at 4 → f ≡ word-of n s at 5 → g ≡ word-of n s at 6 → h ≡ word-of n s at 7 → loaded n (a ∷ b ∷ c ∷ d ∷ e ∷ f ∷ g ∷ h ∷ []) ≡ numbers n s at
+  load-each n {a} {b} {c} {d} {e} {f} {g} {h} l ea eb ec ed ee ef eg eh = load-all n n _ (record { size = refl; each = each }) (omega arith)
+    where
+      has : (j : ℕ) → j < n → word-of n s at j ≡ be4 s (at + 4 * j)
+      has j k = rw (le-leb (j + 1) n (omega (arith, k)))
+
+      each : (j : ℕ) → j < n → getD (a ∷ b ∷ c ∷ d ∷ e ∷ f ∷ g ∷ h ∷ []) j 0 ≡ be4 s (at + 4 * j)
+      each zero k = ea ∙ has 0 k
+      each (suc zero) k = eb ∙ has 1 k
+      each (suc (suc zero)) k = ec ∙ has 2 k
+      each (suc (suc (suc zero))) k = ed ∙ has 3 k
+      each (suc (suc (suc (suc zero)))) k = ee ∙ has 4 k
+      each (suc (suc (suc (suc (suc zero))))) k = ef ∙ has 5 k
+      each (suc (suc (suc (suc (suc (suc zero)))))) k = eg ∙ has 6 k
+      each (suc (suc (suc (suc (suc (suc (suc zero))))))) k = eh ∙ has 7 k
+      each (suc (suc (suc (suc (suc (suc (suc (suc j)))))))) k = absurd (omega (arith, k, l))
+
+-- one of them
+module _ (s : List ℕ) (at n i : ℕ) where
+  pub load-word : {v : ℕ} → i < n → v ≡ be4 s (at + 4 * i) → v ≡ word-of n s at i
+  load-word l e = rw (le-leb (i + 1) n (omega (arith, l))) e
+
+  pub load-zero : n ≤ i → 0 ≡ word-of n s at i
+  load-zero l = rw (lt-leb (i + 1) n (omega (arith, l)))
 
 -- six bytes, one by one
 pub first-six : (l : List ℕ) → 6 ≤ length l → (getD l 0 0 ∷ getD l 1 0 ∷ getD l 2 0 ∷ getD l 3 0 ∷ getD l 4 0 ∷ getD l 5 0 ∷ []) ≡ take 6 l
@@ -258,4 +271,4 @@ pub ruleset steps = (within-start, within-then, needs)
 pub ruleset rows = (all-read, all-refused, then-on, then-is, ends, ends-on)
 
 -- for the items themselves
-pub ruleset items = (within-got, handed-on, from-there, then-reads, then-word, no-word, then-long, no-long, then-sixteen, then-six, range-got, range-stop, is-opaque, is-text, range-part, range-arm, run-there, then-words, no-words, load-none, load-more, load-all, needs)
+pub ruleset items = (within-got, handed-on, from-there, then-reads, then-word, no-word, then-long, no-long, then-sixteen, then-six, range-got, range-stop, is-opaque, is-text, range-part, range-arm, run-there, then-words, no-words, load-each, load-word, load-zero, needs)

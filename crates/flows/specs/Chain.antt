@@ -1,8 +1,11 @@
 -- Items read one after another, each from the outcome of those before it, which is handed on where it is a refusal. Assumes nothing.
-use Prim.Native.Nat.{ℕ, zero, suc, _+_}
+use Prim.Native.Nat.{ℕ, zero, suc, _+_, _*_}
 use mathlib.Core.Path.{_≡_}
+use mathlib.Core.Bool.{cond}
 use mathlib.Core.List.{List, [], _∷_}
+use lib.Dec.{leb}
 use lib.ListN.{getD}
+use Rattle.reading.specs.Bytes.{be4}
 use Rattle.reading.specs.Script.{Value, number, opaque}
 use Rattle.reading.specs.Cursor.{got}
 use Rattle.reading.specs.Layout.{Field, plain, str, list, segments}
@@ -28,6 +31,10 @@ pub data Then (l : List Field) (s : List ℕ) : Passed → Passed → List Value
   goes : {d e : Cursor} {vs : List Value} → fields-out l s (place d) ≡ got vs (place e) → Inside s e → Then l s (passed.Got d) (passed.Got e) vs
   halts : {d : Cursor} {x : Outcome} {vs : List Value} → fields-out l s (place d) ≡ refusal x → Then l s (passed.Got d) (passed.Stop x) vs
   stays : {x : Outcome} {vs : List Value} → Then l s (passed.Stop x) (passed.Stop x) vs
+
+-- the word with this index of the n words at a place, and 0 behind them
+abbrev pub word-of : (n : ℕ) → List ℕ → (at index : ℕ) → ℕ
+word-of n s at i = cond (leb (i + 1) n) (be4 s (at + 4 * i)) 0
 
 -- the first n of some words, as they are read one by one
 abbrev pub loaded-from : ℕ → List ℕ → (i : ℕ) → List Value

@@ -2,13 +2,13 @@
 ghost use mathlib.Core.Path.{_≡_};
 ghost use mathlib.Core.List.{[], _∷_};
 ghost use mathlib.Core.Bool.{cond};
-ghost use Prim.Native.Nat.{_+_, _*_, _≤_};
+ghost use Prim.Native.Nat.{_+_, _*_, _≤_, _<_};
 ghost use lib.ListN.{length, take};
 ghost use Rattle.reading.specs.Script.{number, octets, part, long, six, eight, sixteen};
 ghost use Rattle.reading.specs.Layout.{plain, mac, addr, words, bytes};
 ghost use Rattle.reading.proofs.Words.{numbers};
 ghost use Rattle.xdr.specs.Shown.{Inside, Reads, span, width, an-address};
-ghost use Rattle.flows.specs.Chain.{Within, Then, loaded, field-of, range-of};
+ghost use Rattle.flows.specs.Chain.{Within, Then, loaded, word-of, field-of, range-of};
 use crate::lists;
 use crate::lists::Ranged;
 use xdr::Address;
@@ -74,18 +74,32 @@ pub fn word(p: Passed, s: &[u8]) -> Number
     }
 }
 
-// The n words at `at`.
+// The word with this index of the n words at `at`, and 0 behind them.
+fn load1(s: &[u8], at: usize, n: usize, index: usize) -> u32
+    requires { ⌜ (at + 4 * n ≤ length (now s)) × (index < 8) ⌝ }
+    ensures { λ r. ⌜ r ≡ word-of n (now (s .entry)) at index ⌝ }
+{
+    if index < n {
+        return load::be32(s, at + 4 * index);
+    }
+    0
+}
+
+// The n words at `at`. It is no loop, so that where n is known only n loads are left of it.
 fn load8(s: &[u8], at: usize, n: usize) -> [u32; 8]
     requires { ⌜ (n ≤ 8) × (at + 4 * n ≤ length (now s)) ⌝ }
     ensures { λ r. ⌜ loaded n r ≡ numbers n (now (s .entry)) at ⌝ }
 {
-    let mut words = [0u32; 8];
-    let mut i = 0;
-    while i < n {
-        words[i] = load::be32(s, at + 4 * i);
-        i += 1;
-    }
-    words
+    [
+        load1(s, at, n, 0),
+        load1(s, at, n, 1),
+        load1(s, at, n, 2),
+        load1(s, at, n, 3),
+        load1(s, at, n, 4),
+        load1(s, at, n, 5),
+        load1(s, at, n, 6),
+        load1(s, at, n, 7),
+    ]
 }
 
 // n words, of which all are known to be there before the first is loaded.
