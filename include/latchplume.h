@@ -1,0 +1,539 @@
+/*
+ * Latchplume: an sFlow version 5 decoder that uses no heap and copies nothing.
+ *
+ * You lend it the bytes and a store of 32-bit words. It answers every input: either it is accepted, and the store then holds a
+ * descriptor for each datagram, sample, record and PDU; or it is refused, and the answer says which rule was broken and where.
+ * The fields of what a descriptor stands for are read by a call of their own, one for each format.
+ *
+ *     uint8_t data[65536];                                     // what came over UDP, n bytes of it
+ *     uint32_t store[LATCHPLUME_STORE_WORDS(sizeof data)];     // room for any datagram of that size
+ *
+ *     latchplume_decoded got = latchplume_decode(data, n, store, sizeof store / sizeof *store);
+ *     if (got.answer.code != LATCHPLUME_ACCEPTED)
+ *         return refuse(got.answer.code, got.answer.at);
+ *     for (size_t i = 0; i < got.answer.needed; i++) {
+ *         const uint32_t *one = store + LATCHPLUME_DESCRIPTOR_WORDS * i;
+ *         latchplume_sampled_header head = latchplume_read_sampled_header(data, n, one);
+ *         if (head.outcome.code == LATCHPLUME_ACCEPTED)       // it is NOT_ASKED for a descriptor of anything else
+ *             use_packet(data + head.header.start, head.header.count);
+ *     }
+ *
+ * Rules that hold for every call:
+ *   - It answers for every value of its arguments. `data` may be NULL where `length` is 0, and `store` where `words` is 0.
+ *   - It reads `length` bytes from `data` on and never writes there. `store` must be aligned for uint32_t and not overlap `data`.
+ *   - It keeps nothing between calls, so threads may call it at the same time.
+ *   - Positions and starts count from the first byte of `data`.
+ *   - A step is one item wholly read and accepted: a word, a 64-bit word, a fixed block, an opaque or a string.
+ *   - A refusal leaves every word of the store as it was. Words behind the last descriptor stay as they were in any case.
+ */
+#ifndef LATCHPLUME_H
+#define LATCHPLUME_H
+
+#include <stdbool.h>
+#include <stddef.h>
+#include <stdint.h>
+
+#ifdef __cplusplus
+extern "C" {
+#endif
+
+/* The longest input that is read. */
+#define LATCHPLUME_MAX_INPUT 16777216u
+
+/* A descriptor is six words. A store of w words holds w / 6 of them. */
+#define LATCHPLUME_DESCRIPTOR_WORDS 6u
+
+/* The words of a store that has room for every input of this many bytes: each descriptor owns four bytes of the input. */
+#define LATCHPLUME_STORE_WORDS(length) ((size_t)(length) / 4u * LATCHPLUME_DESCRIPTOR_WORDS)
+
+/*
+ * What a call answers. A code comes with a position: for 0 the first byte behind what was read, for 2 to 8 the place named here,
+ * and 0 for the rest. Code 1 is looked for first, then the first fault in reading order, and 9 last.
+ */
+enum latchplume_code {
+    LATCHPLUME_ACCEPTED = 0,        /* accepted */
+    LATCHPLUME_INPUT_LENGTH = 1,    /* input longer than 16,777,216 */
+    LATCHPLUME_PASSES_END = 2,      /* an item passes the end of what encloses it: the item's first byte */
+    LATCHPLUME_VERSION = 3,         /* version is not 5: the version word */
+    LATCHPLUME_ADDRESS_TYPE = 4,    /* address type above 2: the type word */
+    LATCHPLUME_OPAQUE_LENGTH = 5,   /* opaque length above 104,857,600: the length word */
+    LATCHPLUME_HEADER_PROTOCOL = 6, /* header protocol unknown to `HeaderProtocol`, which knows 1 to 17: the protocol word */
+    LATCHPLUME_NOT_UTF8 = 7,        /* string is not UTF-8: the length word */
+    LATCHPLUME_DEPTH = 8,           /* a record would begin at depth 9: where it would begin */
+    LATCHPLUME_NO_ROOM = 9,         /* all else accepted, but the store holds fewer than needed; `needed` is given */
+    LATCHPLUME_RANGE = 10,          /* field reading: range passes the input */
+    LATCHPLUME_NOT_ASKED = 11       /* field reading: kind or format not the one asked */
+};
+
+/* The words of a descriptor, by their place. Descriptors stand in the order of their first byte, parents first. */
+enum latchplume_descriptor_word {
+    LATCHPLUME_KIND = 0,   /* one of enum latchplume_kind */
+    LATCHPLUME_FORMAT = 1, /* the format word; 0 for a datagram and a PDU */
+    LATCHPLUME_START = 2,  /* the first byte: of a datagram its own, of a sample or record its payload's, of a PDU the one behind its count */
+    LATCHPLUME_LENGTH = 3, /* of a datagram all of it, of a sample or record the payload without pad, of a PDU up to its last record's pad */
+    LATCHPLUME_PARENT = 4, /* the parent's index in the store; LATCHPLUME_NOBODY for a datagram */
+    LATCHPLUME_AT_DEPTH = 5 /* 0 for datagrams and samples, 1 for a sample's own records, d + 1 for records in a PDU of a record at d, at most 8 */
+};
+
+enum latchplume_kind {
+    LATCHPLUME_DATAGRAM = 0,
+    LATCHPLUME_SAMPLE = 1,
+    LATCHPLUME_FLOW_RECORD = 2,
+    LATCHPLUME_COUNTER_RECORD = 3,
+    LATCHPLUME_PDU = 4
+};
+
+#define LATCHPLUME_NOBODY 4294967295u
+
+/* Decoding. */
+
+typedef struct latchplume_answer {
+    uint32_t code;
+    size_t at;
+    size_t steps;
+    size_t needed; /* descriptors: those written on 0, those that there was no room for on 9, else 0 */
+} latchplume_answer;
+
+/* An address: kind 0 has no bytes, 1 is IPv4 in the first four, 2 is IPv6. Unused bytes are zero. */
+typedef struct latchplume_address {
+    uint32_t kind;
+    uint8_t bytes[16];
+} latchplume_address;
+
+/* The answer to one datagram, with its header. On a refusal the header is all zero. */
+typedef struct latchplume_decoded {
+    latchplume_answer answer;
+    latchplume_address agent_address;
+    uint32_t sub_agent_id;
+    uint32_t sequence_number;
+    uint32_t uptime;
+    uint32_t num_samples;
+} latchplume_decoded;
+
+/* One datagram. Bytes behind its last sample are left alone. */
+latchplume_decoded latchplume_decode(const uint8_t *data, size_t length, uint32_t *store, size_t words);
+
+/*
+ * Datagrams end to end. Code 2 in one of them ends the run there: the answer is 0, its position is where that datagram begins, and
+ * the datagrams before it have their descriptors. Any other code refuses the whole run.
+ */
+latchplume_answer latchplume_decode_run(const uint8_t *data, size_t length, uint32_t *store, size_t words);
+
+/* Numbers of two parts in one word. Each is a type of its own, so that one cannot be taken for another. */
+
+typedef struct latchplume_data_format {
+    uint32_t word;
+} latchplume_data_format;
+
+typedef struct latchplume_data_source {
+    uint32_t word;
+} latchplume_data_source;
+
+typedef struct latchplume_interface {
+    uint32_t word;
+} latchplume_interface;
+
+static inline latchplume_data_format latchplume_format_of(const uint32_t *descriptor)
+{
+    latchplume_data_format format;
+    format.word = descriptor[LATCHPLUME_FORMAT];
+    return format;
+}
+
+/* The enterprise, in the upper 20 bits. */
+static inline uint32_t latchplume_enterprise(latchplume_data_format format)
+{
+    return format.word >> 12;
+}
+
+/* The enterprise's own number for the format, in the lower 12. */
+static inline uint32_t latchplume_format_number(latchplume_data_format format)
+{
+    return format.word & 0xfffu;
+}
+
+/* The type of a source (0 an interface, 1 a VLAN, 2 a physical entity), in the upper 8 bits. */
+static inline uint32_t latchplume_source_type(latchplume_data_source source)
+{
+    return source.word >> 24;
+}
+
+static inline uint32_t latchplume_source_index(latchplume_data_source source)
+{
+    return source.word & 0xffffffu;
+}
+
+/* What an interface's value is (0 an index, 1 the reason of a discard, 2 how many interfaces), in the upper 2 bits. */
+static inline uint32_t latchplume_interface_format(latchplume_interface in)
+{
+    return in.word >> 30;
+}
+
+static inline uint32_t latchplume_interface_value(latchplume_interface in)
+{
+    return in.word & 0x3fffffffu;
+}
+
+typedef struct latchplume_data_source_expanded {
+    uint32_t source_id_type;
+    uint32_t source_id_index;
+} latchplume_data_source_expanded;
+
+typedef struct latchplume_interface_expanded {
+    uint32_t format;
+    uint32_t value;
+} latchplume_interface_expanded;
+
+/*
+ * Field reading. Each call takes the input and one descriptor of its format. Refusals come in this order: 1, 10, 11, and then what
+ * the layout itself meets, held to the descriptor's range. On a refusal the outcome has code, position and steps (0 steps on 1, 10
+ * and 11), and all other fields are zero. On 0 the position is the end of the last item read.
+ */
+
+typedef struct latchplume_outcome {
+    uint32_t code;
+    size_t at;
+    size_t steps;
+} latchplume_outcome;
+
+/*
+ * A part of the input. Of an opaque or string: its first byte, and how many bytes. Of a list: where its first word begins, and how
+ * many words (latchplume_list_word reads them). Of an AS path: where its first segment begins, and how many segments
+ * (latchplume_next_segment reads them). A string is well-formed UTF-8 and may hold any character; it ends in no NUL.
+ */
+typedef struct latchplume_span {
+    size_t start;
+    size_t count;
+} latchplume_span;
+
+/* The header of a datagram: kind 0. */
+typedef struct latchplume_header {
+    latchplume_outcome outcome;
+    uint32_t version;
+    latchplume_address agent_address;
+    uint32_t sub_agent_id;
+    uint32_t sequence_number;
+    uint32_t uptime; /* milliseconds */
+    uint32_t num_samples;
+} latchplume_header;
+
+latchplume_header latchplume_read_header(const uint8_t *data, size_t length, const uint32_t descriptor[6]);
+
+/* Samples: kind 1, the fields before their records. */
+
+/* Format 1: a packet sampled from a source. */
+typedef struct latchplume_flow_sample {
+    latchplume_outcome outcome;
+    uint32_t sequence_number;
+    latchplume_data_source source_id;
+    uint32_t sampling_rate;
+    uint32_t sample_pool;
+    uint32_t drops;
+    latchplume_interface input;
+    latchplume_interface output;
+    uint32_t num_records;
+} latchplume_flow_sample;
+
+latchplume_flow_sample latchplume_read_flow_sample(const uint8_t *data, size_t length, const uint32_t descriptor[6]);
+
+/* Format 2: counters of a source. */
+typedef struct latchplume_counters_sample {
+    latchplume_outcome outcome;
+    uint32_t sequence_number;
+    latchplume_data_source source_id;
+    uint32_t num_records;
+} latchplume_counters_sample;
+
+latchplume_counters_sample latchplume_read_counters_sample(const uint8_t *data, size_t length, const uint32_t descriptor[6]);
+
+/* Format 3: as 1, with two words each for the source and the interfaces. */
+typedef struct latchplume_flow_sample_expanded {
+    latchplume_outcome outcome;
+    uint32_t sequence_number;
+    latchplume_data_source_expanded source_id;
+    uint32_t sampling_rate;
+    uint32_t sample_pool;
+    uint32_t drops;
+    latchplume_interface_expanded input;
+    latchplume_interface_expanded output;
+    uint32_t num_records;
+} latchplume_flow_sample_expanded;
+
+latchplume_flow_sample_expanded latchplume_read_flow_sample_expanded(const uint8_t *data, size_t length, const uint32_t descriptor[6]);
+
+/* Format 4: as 2, with two words for the source. */
+typedef struct latchplume_counters_sample_expanded {
+    latchplume_outcome outcome;
+    uint32_t sequence_number;
+    latchplume_data_source_expanded source_id;
+    uint32_t num_records;
+} latchplume_counters_sample_expanded;
+
+latchplume_counters_sample_expanded latchplume_read_counters_sample_expanded(const uint8_t *data, size_t length, const uint32_t descriptor[6]);
+
+/* Format 5: a packet that was discarded, and why. */
+typedef struct latchplume_discarded_packet {
+    latchplume_outcome outcome;
+    uint32_t sequence_number;
+    latchplume_data_source_expanded source_id;
+    uint32_t drops;
+    uint32_t input_ifindex;
+    uint32_t output_ifindex;
+    uint32_t reason;
+    uint32_t num_records;
+} latchplume_discarded_packet;
+
+latchplume_discarded_packet latchplume_read_discarded_packet(const uint8_t *data, size_t length, const uint32_t descriptor[6]);
+
+/* Flow records: kind 2. */
+
+/* Format 1: the packet's first bytes, by the protocol of its header. */
+typedef struct latchplume_sampled_header {
+    latchplume_outcome outcome;
+    uint32_t protocol;
+    uint32_t frame_length;
+    uint32_t stripped;
+    latchplume_span header; /* bytes */
+} latchplume_sampled_header;
+
+latchplume_sampled_header latchplume_read_sampled_header(const uint8_t *data, size_t length, const uint32_t descriptor[6]);
+
+/* Format 2: an Ethernet frame. */
+typedef struct latchplume_sampled_ethernet {
+    latchplume_outcome outcome;
+    uint32_t length;
+    uint8_t src_mac[6];
+    uint8_t dst_mac[6];
+    uint32_t eth_type;
+} latchplume_sampled_ethernet;
+
+latchplume_sampled_ethernet latchplume_read_sampled_ethernet(const uint8_t *data, size_t length, const uint32_t descriptor[6]);
+
+/* Format 3: an IPv4 packet. An address is its four bytes as one number, the first of them uppermost. */
+typedef struct latchplume_sampled_ipv4 {
+    latchplume_outcome outcome;
+    uint32_t length;
+    uint32_t protocol;
+    uint32_t src_ip;
+    uint32_t dst_ip;
+    uint32_t src_port;
+    uint32_t dst_port;
+    uint32_t tcp_flags;
+    uint32_t tos;
+} latchplume_sampled_ipv4;
+
+latchplume_sampled_ipv4 latchplume_read_sampled_ipv4(const uint8_t *data, size_t length, const uint32_t descriptor[6]);
+
+/* Format 4: an IPv6 packet. */
+typedef struct latchplume_sampled_ipv6 {
+    latchplume_outcome outcome;
+    uint32_t length;
+    uint32_t protocol;
+    uint8_t src_ip[16];
+    uint8_t dst_ip[16];
+    uint32_t src_port;
+    uint32_t dst_port;
+    uint32_t tcp_flags;
+    uint32_t priority;
+} latchplume_sampled_ipv6;
+
+latchplume_sampled_ipv6 latchplume_read_sampled_ipv6(const uint8_t *data, size_t length, const uint32_t descriptor[6]);
+
+/* Format 1001: the VLANs and priorities of a switched packet. */
+typedef struct latchplume_extended_switch {
+    latchplume_outcome outcome;
+    uint32_t src_vlan;
+    uint32_t src_priority;
+    uint32_t dst_vlan;
+    uint32_t dst_priority;
+} latchplume_extended_switch;
+
+latchplume_extended_switch latchplume_read_extended_switch(const uint8_t *data, size_t length, const uint32_t descriptor[6]);
+
+/* Format 1002: the next hop of a routed packet, and the masks of its ends. */
+typedef struct latchplume_extended_router {
+    latchplume_outcome outcome;
+    latchplume_address next_hop;
+    uint32_t src_mask_len;
+    uint32_t dst_mask_len;
+} latchplume_extended_router;
+
+latchplume_extended_router latchplume_read_extended_router(const uint8_t *data, size_t length, const uint32_t descriptor[6]);
+
+/* Format 1003: the BGP route of a packet. */
+typedef struct latchplume_extended_gateway {
+    latchplume_outcome outcome;
+    latchplume_address next_hop;
+    uint32_t as_number;
+    uint32_t src_as;
+    uint32_t src_peer_as;
+    latchplume_span dst_as_path; /* segments */
+    latchplume_span communities; /* a list */
+    uint32_t local_pref;
+} latchplume_extended_gateway;
+
+latchplume_extended_gateway latchplume_read_extended_gateway(const uint8_t *data, size_t length, const uint32_t descriptor[6]);
+
+/* Format 1004: the users at both ends of a packet. */
+typedef struct latchplume_extended_user {
+    latchplume_outcome outcome;
+    uint32_t src_charset;
+    latchplume_span src_user; /* a string */
+    uint32_t dst_charset;
+    latchplume_span dst_user; /* a string */
+} latchplume_extended_user;
+
+latchplume_extended_user latchplume_read_extended_user(const uint8_t *data, size_t length, const uint32_t descriptor[6]);
+
+/* Format 1005: an HTTP request; direction 1 is the source's, 2 the destination's. */
+typedef struct latchplume_extended_url {
+    latchplume_outcome outcome;
+    uint32_t direction;
+    latchplume_span url;  /* a string */
+    latchplume_span host; /* a string */
+} latchplume_extended_url;
+
+latchplume_extended_url latchplume_read_extended_url(const uint8_t *data, size_t length, const uint32_t descriptor[6]);
+
+/* Format 1006: the MPLS label stacks of a packet. */
+typedef struct latchplume_extended_mpls {
+    latchplume_outcome outcome;
+    latchplume_address next_hop;
+    latchplume_span in_stack;  /* a list */
+    latchplume_span out_stack; /* a list */
+} latchplume_extended_mpls;
+
+latchplume_extended_mpls latchplume_read_extended_mpls(const uint8_t *data, size_t length, const uint32_t descriptor[6]);
+
+/* Format 1007: a packet's addresses behind a translation. */
+typedef struct latchplume_extended_nat {
+    latchplume_outcome outcome;
+    latchplume_address src_address;
+    latchplume_address dst_address;
+} latchplume_extended_nat;
+
+latchplume_extended_nat latchplume_read_extended_nat(const uint8_t *data, size_t length, const uint32_t descriptor[6]);
+
+/* Format 1008: the MPLS tunnel. */
+typedef struct latchplume_extended_mpls_tunnel {
+    latchplume_outcome outcome;
+    latchplume_span tunnel_lsp_name; /* a string */
+    uint32_t tunnel_id;
+    uint32_t tunnel_cos;
+} latchplume_extended_mpls_tunnel;
+
+latchplume_extended_mpls_tunnel latchplume_read_extended_mpls_tunnel(const uint8_t *data, size_t length, const uint32_t descriptor[6]);
+
+/* Format 1009: the MPLS virtual circuit. */
+typedef struct latchplume_extended_mpls_vc {
+    latchplume_outcome outcome;
+    latchplume_span vc_instance_name; /* a string */
+    uint32_t vll_vc_id;
+    uint32_t vc_label;
+    uint32_t vc_cos;
+} latchplume_extended_mpls_vc;
+
+latchplume_extended_mpls_vc latchplume_read_extended_mpls_vc(const uint8_t *data, size_t length, const uint32_t descriptor[6]);
+
+/* Format 1010: the forwarding equivalence class, as an address prefix. */
+typedef struct latchplume_extended_mpls_fec {
+    latchplume_outcome outcome;
+    latchplume_address fec_addr_prefix;
+    uint32_t fec_prefix_len;
+} latchplume_extended_mpls_fec;
+
+latchplume_extended_mpls_fec latchplume_read_extended_mpls_fec(const uint8_t *data, size_t length, const uint32_t descriptor[6]);
+
+/* Format 1011: the forwarding equivalence class, as a prefix length. */
+typedef struct latchplume_extended_mpls_lvp_fec {
+    latchplume_outcome outcome;
+    uint32_t mpls_fec_addr_prefix_length;
+} latchplume_extended_mpls_lvp_fec;
+
+latchplume_extended_mpls_lvp_fec latchplume_read_extended_mpls_lvp_fec(const uint8_t *data, size_t length, const uint32_t descriptor[6]);
+
+/* Format 1012: the VLAN tags that were taken off, each with its TPID above its TCI. */
+typedef struct latchplume_extended_vlan_tunnel {
+    latchplume_outcome outcome;
+    latchplume_span stack; /* a list */
+} latchplume_extended_vlan_tunnel;
+
+latchplume_extended_vlan_tunnel latchplume_read_extended_vlan_tunnel(const uint8_t *data, size_t length, const uint32_t descriptor[6]);
+
+/* Format 1013: an 802.11 payload before it was encrypted. */
+typedef struct latchplume_extended_80211_payload {
+    latchplume_outcome outcome;
+    uint32_t cipher_suite;
+    latchplume_span data; /* bytes */
+} latchplume_extended_80211_payload;
+
+latchplume_extended_80211_payload latchplume_read_extended_80211_payload(const uint8_t *data, size_t length, const uint32_t descriptor[6]);
+
+/* Format 1014: how an 802.11 packet was received. */
+typedef struct latchplume_extended_80211_rx {
+    latchplume_outcome outcome;
+    latchplume_span ssid; /* a string */
+    uint8_t bssid[6];
+    uint32_t version;
+    uint32_t channel;
+    uint64_t speed;
+    uint32_t rsni;
+    uint32_t rcpi;
+    uint32_t packet_duration;
+} latchplume_extended_80211_rx;
+
+latchplume_extended_80211_rx latchplume_read_extended_80211_rx(const uint8_t *data, size_t length, const uint32_t descriptor[6]);
+
+/* Format 1015: how an 802.11 packet was sent. */
+typedef struct latchplume_extended_80211_tx {
+    latchplume_outcome outcome;
+    latchplume_span ssid; /* a string */
+    uint8_t bssid[6];
+    uint32_t version;
+    uint32_t transmissions;
+    uint32_t packet_duration;
+    uint32_t retrans_duration;
+    uint32_t channel;
+    uint64_t speed;
+    uint32_t power;
+} latchplume_extended_80211_tx;
+
+latchplume_extended_80211_tx latchplume_read_extended_80211_tx(const uint8_t *data, size_t length, const uint32_t descriptor[6]);
+
+/* Format 1016: an 802.11 aggregation: how many PDUs follow. They and their records have descriptors of their own. */
+typedef struct latchplume_extended_80211_aggregation {
+    latchplume_outcome outcome;
+    uint32_t pdu_count;
+} latchplume_extended_80211_aggregation;
+
+latchplume_extended_80211_aggregation latchplume_read_extended_80211_aggregation(const uint8_t *data, size_t length, const uint32_t descriptor[6]);
+
+/* Where a descriptor's payload lies. It refuses nothing: where code 1 or 10 would apply, start and count are 0. */
+latchplume_span latchplume_payload(const uint8_t *data, size_t length, const uint32_t descriptor[6]);
+
+/* Going through what is answered as start and count. */
+
+/* A word of a list; not present, and 0, where the list or the input has none there. */
+typedef struct latchplume_listed {
+    bool present;
+    uint32_t value;
+} latchplume_listed;
+
+/* The word with the index n of a list that was answered as start and count. */
+latchplume_listed latchplume_list_word(const uint8_t *data, size_t length, size_t start, size_t count, size_t n);
+
+/* A segment of an AS path: kind 1 is a set, 2 a sequence. */
+typedef struct latchplume_segment {
+    latchplume_outcome outcome;
+    uint32_t kind;
+    latchplume_span path; /* a list */
+} latchplume_segment;
+
+/* The segment that begins at `at`. On code 0, outcome.at is where the next one begins. */
+latchplume_segment latchplume_next_segment(const uint8_t *data, size_t length, size_t at);
+
+#ifdef __cplusplus
+}
+#endif
+
+#endif
