@@ -1,0 +1,242 @@
+/* The command: lists, or shows as a tree, the sFlow datagrams of a file. */
+#include "input.h"
+#include "packets.h"
+#include "show.h"
+#include "text.h"
+
+#include <errno.h>
+#include <inttypes.h>
+#include <locale.h>
+#include <stdio.h>
+#include <stdlib.h>
+#include <string.h>
+
+static const char HELP[] =
+    "usage: latchplume list [--port N] FILE          one datagram: the answer, and a line for each descriptor\n"
+    "       latchplume run  [--port N] FILE          datagrams end to end, listed likewise\n"
+    "       latchplume show [--port N] [--full] FILE datagrams end to end, each as a tree of its fields\n"
+    "\n"
+    "FILE holds sFlow version 5 datagrams, bare; or it is a pcap or pcapng file, whose UDP packets to the sFlow port are read one\n"
+    "by one. - is standard input. Bare datagrams are read up to 16,777,216 bytes.\n"
+    "\n"
+    "  --port N   the port of the packets in a pcap file, instead of 6343\n"
+    "  --full     all of a field that has more than 256 bytes or words\n"
+    "  --help     this text\n"
+    "\n"
+    "exit status: 0 all was accepted\n"
+    "             1 a datagram was refused, is cut or is in fragments, or bytes are left over that are no datagram (show)\n"
+    "             2 the words of the command are off; the file is missing, empty, a folder, too long or no readable capture\n";
+
+enum { ACCEPTED = 0, REFUSED = 1, TROUBLE = 2 };
+
+struct work {
+    void (*each)(struct work *w, const uint8_t *data, size_t length);
+    const char *file;
+    unsigned port;
+    size_t most;
+    uint32_t *store;
+    size_t words;
+    unsigned long number; /* of the datagram that is shown */
+    int status;
+};
+
+static void worse(struct work *w, int status)
+{
+    if (status > w->status)
+        w->status = status;
+}
+
+/* The lines of document 01's listing. */
+static void print_listing(struct work *w, const latchplume_answer *a)
+{
+    printf("code=%" PRIu32 " at=%zu steps=%zu descriptors=%zu\n", a->code, a->at, a->steps, a->needed);
+    if (a->code != LATCHPLUME_ACCEPTED) {
+        worse(w, REFUSED);
+        return;
+    }
+    for (size_t i = 0; i < a->needed; i++) {
+        const uint32_t *d = w->store + LATCHPLUME_DESCRIPTOR_WORDS * i;
+        printf("kind=%" PRIu32 " format=%" PRIu32 " start=%" PRIu32 " length=%" PRIu32 " parent=%" PRIu32 " depth=%" PRIu32 "\n",
+               d[LATCHPLUME_KIND], d[LATCHPLUME_FORMAT], d[LATCHPLUME_START], d[LATCHPLUME_LENGTH], d[LATCHPLUME_PARENT], d[LATCHPLUME_AT_DEPTH]);
+    }
+}
+
+static void list(struct work *w, const uint8_t *data, size_t length)
+{
+    latchplume_decoded got = latchplume_decode(data, length, w->store, w->words);
+    print_listing(w, &got.answer);
+}
+
+static void list_run(struct work *w, const uint8_t *data, size_t length)
+{
+    latchplume_answer got = latchplume_decode_run(data, length, w->store, w->words);
+    print_listing(w, &got);
+}
+
+/* One datagram; its length, or 0 where it is refused. */
+static size_t show_next(struct work *w, const struct shown *s, size_t from)
+{
+    latchplume_decoded got = latchplume_decode(s->data + from, s->length - from, w->store, w->words);
+    if (got.answer.code != LATCHPLUME_ACCEPTED) {
+        show_refusal(s, ++w->number, from, &got.answer);
+        worse(w, REFUSED);
+        return 0;
+    }
+    for (size_t i = 0; i < got.answer.needed; i++)
+        w->store[LATCHPLUME_DESCRIPTOR_WORDS * i + LATCHPLUME_START] += (uint32_t)from;
+    if (!show_datagram(s, ++w->number, w->store, got.answer.needed))
+        worse(w, REFUSED);
+    return got.answer.at;
+}
+
+static void show_all(struct work *w, const uint8_t *data, size_t length)
+{
+    struct shown s = {data, length, w->most};
+    size_t from = 0, got = 1;
+    while (from < length && got > 0) {
+        got = show_next(w, &s, from);
+        from += got;
+    }
+}
+
+/* The one datagram of a packet; bytes behind it are no fault. */
+static void show_packet(struct work *w, const uint8_t *data, size_t length)
+{
+    struct shown s = {data, length, w->most};
+    show_next(w, &s, 0);
+}
+
+static bool make_store(struct work *w, size_t length)
+{
+    w->words = LATCHPLUME_STORE_WORDS(length < LATCHPLUME_MAX_INPUT ? length : LATCHPLUME_MAX_INPUT);
+    w->store = calloc(w->words + 1, sizeof *w->store);
+    if (w->store == NULL)
+        input_trouble(w->file, strerror(errno));
+    return w->store != NULL;
+}
+
+static void take_packet(void *who, const struct packet *one)
+{
+    struct work *w = who;
+    printf("packet %lu", one->number);
+    if (one->state == WHOLE) {
+        putchar('\n');
+        w->each(w, one->data, one->length);
+        return;
+    }
+    if (one->state == CUT)
+        printf(" is cut, and not decoded: %zu bytes of %zu are there\n", one->length, one->announced);
+    else
+        printf(" is in fragments, and not decoded: %zu bytes of %zu are in the first\n", one->length, one->announced);
+    worse(w, REFUSED);
+}
+
+static void work_on_capture(struct work *w, const struct input *in)
+{
+    struct packets count;
+    if (w->each == show_all)
+        w->each = show_packet;
+    if (!packets_each(in->name, in->data, in->length, w->port, take_packet, w, &count)) {
+        worse(w, TROUBLE);
+        return;
+    }
+    printf("%lu packets: %lu datagrams, %lu cut, %lu fragments, %lu others\n", count.all, count.datagrams, count.cut, count.fragments, count.others);
+    if (count.fragments)
+        worse(w, REFUSED);
+    if (count.all == count.others) {
+        char said[96];
+        snprintf(said, sizeof said, "has no UDP packet to port %u (--port names another)", w->port);
+        input_trouble(in->name, said);
+        worse(w, TROUBLE);
+    }
+}
+
+static void work_on_datagrams(struct work *w, const struct input *in)
+{
+    w->each(w, in->data, in->length);
+    if (in->length == 0 || in->length > LATCHPLUME_MAX_INPUT) {
+        input_trouble(in->name, in->length ? "is longer than 16,777,216 bytes" : "is empty");
+        worse(w, TROUBLE);
+    }
+}
+
+static int work(struct work *w)
+{
+    struct input in;
+    if (!input_open(&in, w->file))
+        return TROUBLE;
+    bool capture = input_is_capture(in.data, in.length);
+    if (!make_store(w, capture ? 65535 : in.length))
+        worse(w, TROUBLE);
+    else if (capture)
+        work_on_capture(w, &in);
+    else
+        work_on_datagrams(w, &in);
+    free(w->store);
+    input_close(&in);
+    if (fflush(stdout) != 0 || ferror(stdout)) {
+        input_trouble("standard output", strerror(errno));
+        worse(w, TROUBLE);
+    }
+    return w->status;
+}
+
+static int usage(const char *said, const char *about)
+{
+    fprintf(stderr, "latchplume: %s%s; latchplume --help tells how it is used\n", said, about);
+    return TROUBLE;
+}
+
+static bool read_port(const char *text, unsigned *port)
+{
+    char *end;
+    unsigned long number = text ? strtoul(text, &end, 10) : 0;
+    *port = (unsigned)number;
+    return text && *text >= '0' && *text <= '9' && *end == '\0' && number >= 1 && number <= 65535;
+}
+
+/* The words behind the command's name. */
+static int with(struct work *w, char **words)
+{
+    bool options = true;
+    for (; *words; words++) {
+        bool option = options && words[0][0] == '-' && words[0][1] != '\0';
+        if (option && strcmp(*words, "--") == 0) {
+            options = false;
+        } else if (option && strcmp(*words, "--full") == 0) {
+            w->most = SIZE_MAX;
+        } else if (option && strcmp(*words, "--port") == 0) {
+            if (!read_port(*++words, &w->port))
+                return usage("--port takes a number from 1 to 65535", "");
+        } else if (option) {
+            return usage("there is no option ", *words);
+        } else if (w->file) {
+            return usage("one file at a time, and here is another: ", *words);
+        } else {
+            w->file = *words;
+        }
+    }
+    return w->file ? work(w) : usage("a file is missing", "");
+}
+
+int main(int count, char **words)
+{
+    static const struct {
+        const char *name;
+        void (*each)(struct work *w, const uint8_t *data, size_t length);
+    } commands[] = {{"list", list}, {"run", list_run}, {"show", show_all}};
+    setlocale(LC_CTYPE, "");
+    for (int i = 1; i < count; i++)
+        if (strcmp(words[i], "--help") == 0) {
+            fputs(HELP, stdout);
+            return fflush(stdout) == 0 ? ACCEPTED : TROUBLE;
+        }
+    if (count < 2)
+        return usage("list, run or show is missing", "");
+    for (size_t i = 0; i < sizeof commands / sizeof *commands; i++)
+        if (strcmp(words[1], commands[i].name) == 0) {
+            struct work w = {.each = commands[i].each, .port = 6343, .most = TEXT_SHORT};
+            return with(&w, words + 2);
+        }
+    return usage("there is no command ", words[1]);
+}

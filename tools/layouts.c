@@ -1,0 +1,275 @@
+#include "layouts.h"
+
+#include "names.h"
+
+/* The call that reads a layout, into the place that the union has for it. */
+#define READ(what)                                                                                                    \
+    static void read_##what(union reading *into, const uint8_t *data, size_t length, const uint32_t *descriptor)      \
+    {                                                                                                                 \
+        into->what = latchplume_read_##what(data, length, descriptor);                                                \
+    }
+
+#define FIELD(what, name, shape) {#name, shape, offsetof(latchplume_##what, name), NULL}
+#define SAID(what, name, shape, say) {#name, shape, offsetof(latchplume_##what, name), say}
+
+READ(header)
+READ(flow_sample)
+READ(counters_sample)
+READ(flow_sample_expanded)
+READ(counters_sample_expanded)
+READ(discarded_packet)
+READ(sampled_header)
+READ(sampled_ethernet)
+READ(sampled_ipv4)
+READ(sampled_ipv6)
+READ(extended_switch)
+READ(extended_router)
+READ(extended_gateway)
+READ(extended_user)
+READ(extended_url)
+READ(extended_mpls)
+READ(extended_nat)
+READ(extended_mpls_tunnel)
+READ(extended_mpls_vc)
+READ(extended_mpls_fec)
+READ(extended_mpls_lvp_fec)
+READ(extended_vlan_tunnel)
+READ(extended_80211_payload)
+READ(extended_80211_rx)
+READ(extended_80211_tx)
+READ(extended_80211_aggregation)
+
+static const struct field HEADER[] = {
+    FIELD(header, version, NUMBER),
+    FIELD(header, agent_address, ADDRESS),
+    FIELD(header, sub_agent_id, NUMBER),
+    FIELD(header, sequence_number, NUMBER),
+    SAID(header, uptime, NUMBER, say_uptime),
+    FIELD(header, num_samples, NUMBER),
+};
+
+static const struct field FLOW_SAMPLE[] = {
+    FIELD(flow_sample, sequence_number, NUMBER),
+    FIELD(flow_sample, source_id, SOURCE),
+    FIELD(flow_sample, sampling_rate, NUMBER),
+    FIELD(flow_sample, sample_pool, NUMBER),
+    FIELD(flow_sample, drops, NUMBER),
+    FIELD(flow_sample, input, INTERFACE),
+    FIELD(flow_sample, output, INTERFACE),
+    FIELD(flow_sample, num_records, NUMBER),
+};
+
+static const struct field COUNTERS_SAMPLE[] = {
+    FIELD(counters_sample, sequence_number, NUMBER),
+    FIELD(counters_sample, source_id, SOURCE),
+    FIELD(counters_sample, num_records, NUMBER),
+};
+
+static const struct field FLOW_SAMPLE_EXPANDED[] = {
+    FIELD(flow_sample_expanded, sequence_number, NUMBER),
+    FIELD(flow_sample_expanded, source_id, SOURCE_EXPANDED),
+    FIELD(flow_sample_expanded, sampling_rate, NUMBER),
+    FIELD(flow_sample_expanded, sample_pool, NUMBER),
+    FIELD(flow_sample_expanded, drops, NUMBER),
+    FIELD(flow_sample_expanded, input, INTERFACE_EXPANDED),
+    FIELD(flow_sample_expanded, output, INTERFACE_EXPANDED),
+    FIELD(flow_sample_expanded, num_records, NUMBER),
+};
+
+static const struct field COUNTERS_SAMPLE_EXPANDED[] = {
+    FIELD(counters_sample_expanded, sequence_number, NUMBER),
+    FIELD(counters_sample_expanded, source_id, SOURCE_EXPANDED),
+    FIELD(counters_sample_expanded, num_records, NUMBER),
+};
+
+static const struct field DISCARDED_PACKET[] = {
+    FIELD(discarded_packet, sequence_number, NUMBER),
+    FIELD(discarded_packet, source_id, SOURCE_EXPANDED),
+    FIELD(discarded_packet, drops, NUMBER),
+    FIELD(discarded_packet, input_ifindex, NUMBER),
+    FIELD(discarded_packet, output_ifindex, NUMBER),
+    SAID(discarded_packet, reason, NUMBER, say_drop_reason),
+    FIELD(discarded_packet, num_records, NUMBER),
+};
+
+static const struct field SAMPLED_HEADER[] = {
+    SAID(sampled_header, protocol, NUMBER, say_header_protocol),
+    FIELD(sampled_header, frame_length, NUMBER),
+    FIELD(sampled_header, stripped, NUMBER),
+    FIELD(sampled_header, header, BYTES),
+};
+
+static const struct field SAMPLED_ETHERNET[] = {
+    FIELD(sampled_ethernet, length, NUMBER),
+    FIELD(sampled_ethernet, src_mac, MAC),
+    FIELD(sampled_ethernet, dst_mac, MAC),
+    SAID(sampled_ethernet, eth_type, NUMBER, say_hexadecimal),
+};
+
+static const struct field SAMPLED_IPV4[] = {
+    FIELD(sampled_ipv4, length, NUMBER),
+    SAID(sampled_ipv4, protocol, NUMBER, say_ip_protocol),
+    FIELD(sampled_ipv4, src_ip, IPV4),
+    FIELD(sampled_ipv4, dst_ip, IPV4),
+    FIELD(sampled_ipv4, src_port, NUMBER),
+    FIELD(sampled_ipv4, dst_port, NUMBER),
+    SAID(sampled_ipv4, tcp_flags, NUMBER, say_tcp_flags),
+    SAID(sampled_ipv4, tos, NUMBER, say_hexadecimal),
+};
+
+static const struct field SAMPLED_IPV6[] = {
+    FIELD(sampled_ipv6, length, NUMBER),
+    SAID(sampled_ipv6, protocol, NUMBER, say_ip_protocol),
+    FIELD(sampled_ipv6, src_ip, IPV6),
+    FIELD(sampled_ipv6, dst_ip, IPV6),
+    FIELD(sampled_ipv6, src_port, NUMBER),
+    FIELD(sampled_ipv6, dst_port, NUMBER),
+    SAID(sampled_ipv6, tcp_flags, NUMBER, say_tcp_flags),
+    FIELD(sampled_ipv6, priority, NUMBER),
+};
+
+static const struct field EXTENDED_SWITCH[] = {
+    SAID(extended_switch, src_vlan, NUMBER, say_unknown),
+    SAID(extended_switch, src_priority, NUMBER, say_unknown),
+    SAID(extended_switch, dst_vlan, NUMBER, say_unknown),
+    SAID(extended_switch, dst_priority, NUMBER, say_unknown),
+};
+
+static const struct field EXTENDED_ROUTER[] = {
+    FIELD(extended_router, next_hop, ADDRESS),
+    FIELD(extended_router, src_mask_len, NUMBER),
+    FIELD(extended_router, dst_mask_len, NUMBER),
+};
+
+static const struct field EXTENDED_GATEWAY[] = {
+    FIELD(extended_gateway, next_hop, ADDRESS),
+    FIELD(extended_gateway, as_number, NUMBER),
+    FIELD(extended_gateway, src_as, NUMBER),
+    FIELD(extended_gateway, src_peer_as, NUMBER),
+    FIELD(extended_gateway, dst_as_path, SEGMENTS),
+    SAID(extended_gateway, communities, LIST, say_community),
+    FIELD(extended_gateway, local_pref, NUMBER),
+};
+
+static const struct field EXTENDED_USER[] = {
+    FIELD(extended_user, src_charset, NUMBER),
+    FIELD(extended_user, src_user, STRING),
+    FIELD(extended_user, dst_charset, NUMBER),
+    FIELD(extended_user, dst_user, STRING),
+};
+
+static const struct field EXTENDED_URL[] = {
+    SAID(extended_url, direction, NUMBER, say_direction),
+    FIELD(extended_url, url, STRING),
+    FIELD(extended_url, host, STRING),
+};
+
+static const struct field EXTENDED_MPLS[] = {
+    FIELD(extended_mpls, next_hop, ADDRESS),
+    SAID(extended_mpls, in_stack, LIST, say_label),
+    SAID(extended_mpls, out_stack, LIST, say_label),
+};
+
+static const struct field EXTENDED_NAT[] = {
+    FIELD(extended_nat, src_address, ADDRESS),
+    FIELD(extended_nat, dst_address, ADDRESS),
+};
+
+static const struct field EXTENDED_MPLS_TUNNEL[] = {
+    FIELD(extended_mpls_tunnel, tunnel_lsp_name, STRING),
+    FIELD(extended_mpls_tunnel, tunnel_id, NUMBER),
+    FIELD(extended_mpls_tunnel, tunnel_cos, NUMBER),
+};
+
+static const struct field EXTENDED_MPLS_VC[] = {
+    FIELD(extended_mpls_vc, vc_instance_name, STRING),
+    FIELD(extended_mpls_vc, vll_vc_id, NUMBER),
+    FIELD(extended_mpls_vc, vc_label, NUMBER),
+    FIELD(extended_mpls_vc, vc_cos, NUMBER),
+};
+
+static const struct field EXTENDED_MPLS_FEC[] = {
+    FIELD(extended_mpls_fec, fec_addr_prefix, ADDRESS),
+    FIELD(extended_mpls_fec, fec_prefix_len, NUMBER),
+};
+
+static const struct field EXTENDED_MPLS_LVP_FEC[] = {
+    FIELD(extended_mpls_lvp_fec, mpls_fec_addr_prefix_length, NUMBER),
+};
+
+static const struct field EXTENDED_VLAN_TUNNEL[] = {
+    SAID(extended_vlan_tunnel, stack, LIST, say_tag),
+};
+
+static const struct field EXTENDED_80211_PAYLOAD[] = {
+    SAID(extended_80211_payload, cipher_suite, NUMBER, say_cipher_suite),
+    FIELD(extended_80211_payload, data, BYTES),
+};
+
+static const struct field EXTENDED_80211_RX[] = {
+    FIELD(extended_80211_rx, ssid, STRING),
+    FIELD(extended_80211_rx, bssid, MAC),
+    SAID(extended_80211_rx, version, NUMBER, say_80211_version),
+    FIELD(extended_80211_rx, channel, NUMBER),
+    FIELD(extended_80211_rx, speed, LONG),
+    FIELD(extended_80211_rx, rsni, NUMBER),
+    FIELD(extended_80211_rx, rcpi, NUMBER),
+    SAID(extended_80211_rx, packet_duration, NUMBER, say_microseconds),
+};
+
+static const struct field EXTENDED_80211_TX[] = {
+    FIELD(extended_80211_tx, ssid, STRING),
+    FIELD(extended_80211_tx, bssid, MAC),
+    SAID(extended_80211_tx, version, NUMBER, say_80211_version),
+    FIELD(extended_80211_tx, transmissions, NUMBER),
+    SAID(extended_80211_tx, packet_duration, NUMBER, say_microseconds),
+    SAID(extended_80211_tx, retrans_duration, NUMBER, say_microseconds),
+    FIELD(extended_80211_tx, channel, NUMBER),
+    FIELD(extended_80211_tx, speed, LONG),
+    SAID(extended_80211_tx, power, NUMBER, say_milliwatts),
+};
+
+static const struct field EXTENDED_80211_AGGREGATION[] = {
+    FIELD(extended_80211_aggregation, pdu_count, NUMBER),
+};
+
+#define LAYOUT(kind, format, what, fields) {kind, format, #what, read_##what, fields, sizeof(fields) / sizeof *(fields)}
+
+const struct layout LAYOUTS[] = {
+    LAYOUT(LATCHPLUME_DATAGRAM, 0, header, HEADER),
+    LAYOUT(LATCHPLUME_SAMPLE, 1, flow_sample, FLOW_SAMPLE),
+    LAYOUT(LATCHPLUME_SAMPLE, 2, counters_sample, COUNTERS_SAMPLE),
+    LAYOUT(LATCHPLUME_SAMPLE, 3, flow_sample_expanded, FLOW_SAMPLE_EXPANDED),
+    LAYOUT(LATCHPLUME_SAMPLE, 4, counters_sample_expanded, COUNTERS_SAMPLE_EXPANDED),
+    LAYOUT(LATCHPLUME_SAMPLE, 5, discarded_packet, DISCARDED_PACKET),
+    LAYOUT(LATCHPLUME_FLOW_RECORD, 1, sampled_header, SAMPLED_HEADER),
+    LAYOUT(LATCHPLUME_FLOW_RECORD, 2, sampled_ethernet, SAMPLED_ETHERNET),
+    LAYOUT(LATCHPLUME_FLOW_RECORD, 3, sampled_ipv4, SAMPLED_IPV4),
+    LAYOUT(LATCHPLUME_FLOW_RECORD, 4, sampled_ipv6, SAMPLED_IPV6),
+    LAYOUT(LATCHPLUME_FLOW_RECORD, 1001, extended_switch, EXTENDED_SWITCH),
+    LAYOUT(LATCHPLUME_FLOW_RECORD, 1002, extended_router, EXTENDED_ROUTER),
+    LAYOUT(LATCHPLUME_FLOW_RECORD, 1003, extended_gateway, EXTENDED_GATEWAY),
+    LAYOUT(LATCHPLUME_FLOW_RECORD, 1004, extended_user, EXTENDED_USER),
+    LAYOUT(LATCHPLUME_FLOW_RECORD, 1005, extended_url, EXTENDED_URL),
+    LAYOUT(LATCHPLUME_FLOW_RECORD, 1006, extended_mpls, EXTENDED_MPLS),
+    LAYOUT(LATCHPLUME_FLOW_RECORD, 1007, extended_nat, EXTENDED_NAT),
+    LAYOUT(LATCHPLUME_FLOW_RECORD, 1008, extended_mpls_tunnel, EXTENDED_MPLS_TUNNEL),
+    LAYOUT(LATCHPLUME_FLOW_RECORD, 1009, extended_mpls_vc, EXTENDED_MPLS_VC),
+    LAYOUT(LATCHPLUME_FLOW_RECORD, 1010, extended_mpls_fec, EXTENDED_MPLS_FEC),
+    LAYOUT(LATCHPLUME_FLOW_RECORD, 1011, extended_mpls_lvp_fec, EXTENDED_MPLS_LVP_FEC),
+    LAYOUT(LATCHPLUME_FLOW_RECORD, 1012, extended_vlan_tunnel, EXTENDED_VLAN_TUNNEL),
+    LAYOUT(LATCHPLUME_FLOW_RECORD, 1013, extended_80211_payload, EXTENDED_80211_PAYLOAD),
+    LAYOUT(LATCHPLUME_FLOW_RECORD, 1014, extended_80211_rx, EXTENDED_80211_RX),
+    LAYOUT(LATCHPLUME_FLOW_RECORD, 1015, extended_80211_tx, EXTENDED_80211_TX),
+    LAYOUT(LATCHPLUME_FLOW_RECORD, 1016, extended_80211_aggregation, EXTENDED_80211_AGGREGATION),
+};
+
+const size_t LAYOUTS_COUNT = sizeof LAYOUTS / sizeof *LAYOUTS;
+
+const struct layout *layout_of(uint32_t kind, uint32_t format)
+{
+    for (size_t i = 0; i < LAYOUTS_COUNT; i++)
+        if (LAYOUTS[i].kind == kind && LAYOUTS[i].format == format)
+            return &LAYOUTS[i];
+    return NULL;
+}

@@ -1,0 +1,33 @@
+/* The names of the numbers in a datagram. */
+#ifndef NAMES_H
+#define NAMES_H
+
+#include <stdint.h>
+
+/* The words of document 01 for a code. */
+const char *name_of_code(uint32_t code);
+
+/* The name of a format by its kind and format word, or NULL. */
+const char *name_of_format(uint32_t kind, uint32_t format);
+
+/* What a number means is printed behind it, in brackets, where there is more to say than the number. */
+void say_header_protocol(uint32_t value);
+void say_ip_protocol(uint32_t value);
+void say_hexadecimal(uint32_t value);
+void say_tcp_flags(uint32_t value);
+void say_drop_reason(uint32_t value);
+void say_direction(uint32_t value);
+void say_unknown(uint32_t value);
+void say_uptime(uint32_t value);
+void say_microseconds(uint32_t value);
+void say_milliwatts(uint32_t value);
+void say_80211_version(uint32_t value);
+void say_cipher_suite(uint32_t value);
+void say_label(uint32_t value);
+void say_tag(uint32_t value);
+void say_community(uint32_t value);
+
+const char *name_of_source(uint32_t type);
+const char *name_of_segment(uint32_t kind);
+
+#endif

@@ -1,0 +1,17 @@
+/* The value of one field, as people write it. */
+#ifndef VALUES_H
+#define VALUES_H
+
+#include "layouts.h"
+
+/* What is shown: the input, and how many bytes or words of one field at the most. */
+struct shown {
+    const uint8_t *data;
+    size_t length;
+    size_t most;
+};
+
+/* A line for the field, and lines below it where its value has parts. */
+void value_print(const struct shown *s, unsigned level, const struct field *field, const union reading *from);
+
+#endif
