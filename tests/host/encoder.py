@@ -1,0 +1,317 @@
+"""Datagrams made by the layouts of document 01, with what a decoder must answer for each of them.
+
+The values that it puts in are the values that are expected back; no code of the decoder has a part in either."""
+import struct
+
+NOBODY = 4294967295
+MAX_INPUT = 16777216
+MAX_OPAQUE = 104857600
+
+# Document 01's rows, with the crate's names: kind, format, and the fields in order. A field is a word where no shape is named.
+LAYOUTS = {
+    "header": (0, 0, "version:version agent_address:address sub_agent_id sequence_number uptime num_samples"),
+    "flow_sample": (1, 1, "sequence_number source_id sampling_rate sample_pool drops input output num_records"),
+    "counters_sample": (1, 2, "sequence_number source_id num_records"),
+    "flow_sample_expanded": (
+        1, 3, "sequence_number source_id:two_words sampling_rate sample_pool drops input:two_words output:two_words num_records"),
+    "counters_sample_expanded": (1, 4, "sequence_number source_id:two_words num_records"),
+    "discarded_packet": (1, 5, "sequence_number source_id:two_words drops input_ifindex output_ifindex reason num_records"),
+    "sampled_header": (2, 1, "protocol:protocol frame_length stripped header:opaque"),
+    "sampled_ethernet": (2, 2, "length src_mac:six dst_mac:six eth_type"),
+    "sampled_ipv4": (2, 3, "length protocol src_ip dst_ip src_port dst_port tcp_flags tos"),
+    "sampled_ipv6": (2, 4, "length protocol src_ip:sixteen dst_ip:sixteen src_port dst_port tcp_flags priority"),
+    "extended_switch": (2, 1001, "src_vlan src_priority dst_vlan dst_priority"),
+    "extended_router": (2, 1002, "next_hop:address src_mask_len dst_mask_len"),
+    "extended_gateway": (
+        2, 1003, "next_hop:address as_number src_as src_peer_as dst_as_path:segments communities:list local_pref"),
+    "extended_user": (2, 1004, "src_charset src_user:string dst_charset dst_user:string"),
+    "extended_url": (2, 1005, "direction url:string host:string"),
+    "extended_mpls": (2, 1006, "next_hop:address in_stack:list out_stack:list"),
+    "extended_nat": (2, 1007, "src_address:address dst_address:address"),
+    "extended_mpls_tunnel": (2, 1008, "tunnel_lsp_name:string tunnel_id tunnel_cos"),
+    "extended_mpls_vc": (2, 1009, "vc_instance_name:string vll_vc_id vc_label vc_cos"),
+    "extended_mpls_fec": (2, 1010, "fec_addr_prefix:address fec_prefix_len"),
+    "extended_mpls_lvp_fec": (2, 1011, "mpls_fec_addr_prefix_length"),
+    "extended_vlan_tunnel": (2, 1012, "stack:list"),
+    "extended_80211_payload": (2, 1013, "cipher_suite data:opaque"),
+    "extended_80211_rx": (2, 1014, "ssid:string bssid:six_of_eight version channel speed:long rsni rcpi packet_duration"),
+    "extended_80211_tx": (
+        2, 1015, "ssid:string bssid:six_of_eight version transmissions packet_duration retrans_duration channel speed:long power"),
+    "extended_80211_aggregation": (2, 1016, "pdu_count"),
+}
+RECORDS = [name for name, row in LAYOUTS.items() if row[0] == 2 and row[1] != 1016]
+SAMPLES = [name for name, row in LAYOUTS.items() if row[0] == 1]
+WORDS_OF_NAMES = ["", "a", "eth0", "guest", "Café 3", "日本", "\x00\x1b[31m", "😀", "plume-latch-7"]
+
+
+def word(number):
+    return struct.pack(">I", number)
+
+
+def pads(length):
+    return -length % 4
+
+
+class Span:
+    """A part of the payload: where it begins in it, and how many bytes, words or segments it has."""
+
+    def __init__(self, start, count):
+        self.start, self.count = start, count
+
+
+class Body:
+    """The bytes of one layout, the items that they are, the values of its fields, and where an item can be spoiled, and how."""
+
+    def __init__(self, name, rng, **given):
+        self.name, self.rng, self.given = name, rng, given
+        self.kind, self.format, fields = LAYOUTS[name]
+        self.data, self.items, self.fields, self.faults = bytearray(), [], {}, []
+        for field in fields.split():
+            field, _, shape = field.partition(":")
+            self.fields[field] = getattr(self, shape or "plain")(field)
+
+    def item(self, raw):
+        self.items.append((len(self.data), len(self.data) + len(raw)))
+        self.data += raw
+
+    def fault(self, code, raw):
+        """The item that comes next is refused with this code where these are its first bytes."""
+        self.faults.append((len(self.items), len(self.data), code, raw))
+
+    def number(self, field, bits=32):
+        return self.given.get(field, self.rng.getrandbits(bits))
+
+    def plain(self, field):
+        value = self.number(field)
+        self.item(word(value))
+        return value
+
+    def version(self, _):
+        self.fault(3, word(4))
+        self.fault(3, word(5 << 16))
+        self.item(word(5))
+        return 5
+
+    def protocol(self, field):
+        self.fault(6, word(0))
+        self.fault(6, word(18))
+        value = self.given.get(field, self.rng.randint(1, 17))
+        self.item(word(value))
+        return value
+
+    def two_words(self, field):
+        return f"{self.plain(field)}/{self.plain(field)}"
+
+    def long(self, field):
+        value = self.number(field, 64)
+        self.item(struct.pack(">Q", value))
+        return value
+
+    def block(self, size, shown, field):
+        value = self.given.get(field) or self.rng.randbytes(shown)
+        self.item(value + self.rng.randbytes(size - shown))
+        return value.hex()
+
+    def six(self, field):
+        return self.block(6, 6, field)
+
+    def six_of_eight(self, field):
+        return self.block(8, 6, field)
+
+    def sixteen(self, field):
+        return self.block(16, 16, field)
+
+    def address(self, field):
+        self.fault(4, word(3))
+        value = self.given.get(field)
+        if value is None:
+            value = self.rng.randbytes(self.rng.choice((0, 4, 16)))
+        kind = {0: 0, 4: 1, 16: 2}[len(value)]
+        self.item(word(kind))
+        if value:
+            self.item(value)
+        return f"{kind}/{value.ljust(16, bytes(1)).hex()}"
+
+    def opaque(self, field):
+        self.fault(5, word(MAX_OPAQUE + 1))
+        value = self.given.get(field)
+        if value is None:
+            value = self.rng.randbytes(self.rng.randint(0, 9))
+        start = len(self.data) + 4
+        self.item(word(len(value)) + value + self.rng.randbytes(pads(len(value))))
+        return Span(start, len(value))
+
+    def string(self, field):
+        value = self.given.get(field, self.rng.choice(WORDS_OF_NAMES)).encode()
+        if value:
+            self.fault(7, word(len(value)) + value[:-1] + b"\xff")
+        self.given[field] = value
+        return self.opaque(field)
+
+    def list(self, field):
+        values = self.given.get(field)
+        if values is None:
+            values = [self.rng.getrandbits(32) for _ in range(self.rng.randint(0, 4))]
+        self.item(word(len(values)))
+        start = len(self.data)
+        for value in values:
+            self.item(word(value))
+        return Span(start, len(values))
+
+    def segments(self, field):
+        rng = self.rng
+        values = self.given.get(field)
+        if values is None:
+            values = [(rng.randint(1, 2), [rng.getrandbits(32) for _ in range(rng.randint(0, 3))]) for _ in range(rng.randint(0, 3))]
+        self.item(word(len(values)))
+        start = len(self.data)
+        for kind, path in values:
+            self.item(word(kind))
+            self.given[field + "[]"] = path
+            self.list(field + "[]")
+        return Span(start, len(values))
+
+    def values(self, base):
+        """The fields as the test program prints them, for a payload at `base`."""
+        shown = ((f, f"{base + v.start}+{v.count}" if isinstance(v, Span) else v) for f, v in self.fields.items())
+        return "".join(f" {field}={value}" for field, value in shown)
+
+    def zeros(self):
+        """The fields of a refusal."""
+        zero = {"address": "0/" + "00" * 16, "two_words": "0/0", "six": "00" * 6, "six_of_eight": "00" * 6, "sixteen": "00" * 16}
+        zero.update(dict.fromkeys(("opaque", "string", "list", "segments"), "0+0"))
+        rows = (field.partition(":") for field in LAYOUTS[self.name][2].split())
+        return "".join(f" {field}={zero.get(shape, 0)}" for field, _, shape in rows)
+
+    def cut_at(self, length):
+        """The first item that passes the end of this many bytes: its index and its first byte; None where all fit."""
+        return next(((i, start) for i, (start, end) in enumerate(self.items) if end > length), None)
+
+
+class Wire:
+    """Datagrams end to end: the bytes, the steps of reading them, the descriptors, and the body that each of those stands for."""
+
+    def __init__(self, rng):
+        self.rng, self.data, self.steps, self.rows, self.bodies = rng, bytearray(), 0, [], []
+        self.outer = []  # items that nothing encloses: first byte, end, and the steps before it
+
+    def body(self, row, body):
+        self.bodies.append((row, body, len(self.data), self.steps))
+        if row is not None and self.rows[row][0] == 0:
+            base = len(self.data)
+            self.outer += [(base + start, base + end, self.steps + i) for i, (start, end) in enumerate(body.items)]
+        self.data += body.data
+        self.steps += len(body.items)
+
+    def enclosed(self, kind, form, parent, depth, fill):
+        """A format word and an opaque, which `fill` fills; and sometimes bytes that are left over in it."""
+        begin, before = len(self.data), self.steps
+        self.data += word(form) + bytes(4)
+        self.steps += 2
+        row, start = len(self.rows), len(self.data)
+        self.rows.append(None)
+        self.rows[row] = (kind, form, start, 0, parent, depth)
+        left_over = fill(row)
+        self.data += self.rng.randbytes(left_over or 0)
+        length = len(self.data) - start
+        self.data[start - 4:start] = word(length)
+        self.data += self.rng.randbytes(pads(length))
+        self.rows[row] = (kind, form, start, length, parent, depth)
+        if kind == 1:
+            self.outer += [(begin, begin + 4, before), (begin + 4, len(self.data), before + 1)]
+
+    def raw(self, kind, form, parent, depth, data):
+        def fill(_):
+            self.data += data
+        self.enclosed(kind, form, parent, depth, fill)
+
+    def record(self, parent, depth, body, left_over=0):
+        def fill(row):
+            self.body(row, body)
+            return left_over
+        self.enclosed(2, body.format, parent, depth, fill)
+
+    def aggregation(self, parent, depth, pdus):
+        """Each PDU is a list of functions that put a record, given its parent and depth."""
+        def fill(row):
+            self.body(row, Body("extended_80211_aggregation", self.rng, pdu_count=len(pdus)))
+            for records in pdus:
+                self.data += word(len(records))
+                self.steps += 1
+                pdu, start = len(self.rows), len(self.data)
+                self.rows.append(None)
+                for put in records:
+                    put(pdu, depth + 1)
+                self.rows[pdu] = (4, 0, start, len(self.data) - start, row, depth)
+        self.enclosed(2, 1016, parent, depth, fill)
+
+    def sample(self, parent, name, puts, left_over=0, **given):
+        """A sample and its records, which are functions as in an aggregation."""
+        def fill(row):
+            self.body(row, Body(name, self.rng, num_records=len(puts), **given))
+            for put in puts:
+                put(row, 1)
+            return left_over
+        self.enclosed(1, LAYOUTS[name][1], parent, 0, fill)
+
+    def datagram(self, puts, **given):
+        """A datagram and its samples: functions that put a sample, given its parent."""
+        row, start = len(self.rows), len(self.data)
+        self.rows.append((0, 0, start, 0, NOBODY, 0))
+        head = Body("header", self.rng, num_samples=len(puts), **given)
+        self.body(row, head)
+        for put in puts:
+            put(row)
+        self.rows[row] = (0, 0, start, len(self.data) - start, NOBODY, 0)
+        return head
+
+    def put_record(self, body, left_over=0):
+        return lambda parent, depth: self.record(parent, depth, body, left_over)
+
+    def put_raw(self, kind, form, data):
+        return lambda parent, depth: self.raw(kind, form, parent, depth, data)
+
+    def put_aggregation(self, pdus):
+        return lambda parent, depth: self.aggregation(parent, depth, pdus)
+
+    def put_sample(self, name, puts, left_over=0, **given):
+        return lambda parent: self.sample(parent, name, puts, left_over, **given)
+
+
+def of_one_record(rng, body, sample="flow_sample", depth=1):
+    """A datagram with this one record, so deep."""
+    wire = Wire(rng)
+    put = wire.put_record(body)
+    for _ in range(depth - 1):
+        put = wire.put_aggregation([[put]])
+    wire.datagram([wire.put_sample(sample, [put])])
+    return wire
+
+
+def any_record(wire, rng, depth):
+    """A function that puts some record: of a known format, raw, or an aggregation where there is room below."""
+    turn = rng.random()
+    if turn < 0.15 and depth < 8:
+        return wire.put_aggregation([[any_record(wire, rng, depth + 1) for _ in range(rng.randint(0, 2))] for _ in range(rng.randint(0, 3))])
+    if turn < 0.3:
+        return wire.put_raw(2, rng.choice((1017, 1 << 12 | 1, 5, 0, 4095, 1036)), rng.randbytes(rng.randint(0, 9)))
+    return wire.put_record(Body(rng.choice(RECORDS), rng), rng.choice((0, 0, 1, 4)))
+
+
+def any_sample(wire, rng):
+    if rng.random() < 0.15:
+        form, data = rng.choice((4300 << 12 | 1002, 4300 << 12 | 1003, 6, 1 << 12 | 1)), rng.randbytes(rng.randint(0, 9))
+        return lambda parent: wire.raw(1, form, parent, 0, data)
+    name = rng.choice(SAMPLES)
+    count = rng.randint(0, 4)
+    if "counters" in name:
+        puts = [wire.put_raw(3, rng.getrandbits(32), rng.randbytes(rng.randint(0, 9))) for _ in range(count)]
+    else:
+        puts = [any_record(wire, rng, 1) for _ in range(count)]
+    return wire.put_sample(name, puts, rng.choice((0, 0, 0, 3)))
+
+
+def any_datagram(rng, wire=None):
+    wire = wire or Wire(rng)
+    head = wire.datagram([any_sample(wire, rng) for _ in range(rng.randint(0, 4))])
+    return wire, head
