@@ -66,6 +66,7 @@ class Body:
         self.name, self.rng, self.given = name, rng, given
         self.kind, self.format, fields = LAYOUTS[name]
         self.data, self.items, self.fields, self.faults = bytearray(), [], {}, []
+        self.lists, self.paths = [], []  # each with its first byte and its values
         for field in fields.split():
             field, _, shape = field.partition(":")
             self.fields[field] = getattr(self, shape or "plain")(field)
@@ -100,7 +101,10 @@ class Body:
         return value
 
     def two_words(self, field):
-        return f"{self.plain(field)}/{self.plain(field)}"
+        pair = self.given.get(field) or (self.rng.getrandbits(32), self.rng.getrandbits(32))
+        for value in pair:
+            self.item(word(value))
+        return "%d/%d" % tuple(pair)
 
     def long(self, field):
         value = self.number(field, 64)
@@ -154,6 +158,7 @@ class Body:
             values = [self.rng.getrandbits(32) for _ in range(self.rng.randint(0, 4))]
         self.item(word(len(values)))
         start = len(self.data)
+        self.lists.append((start, values))
         for value in values:
             self.item(word(value))
         return Span(start, len(values))
@@ -165,6 +170,7 @@ class Body:
             values = [(rng.randint(1, 2), [rng.getrandbits(32) for _ in range(rng.randint(0, 3))]) for _ in range(rng.randint(0, 3))]
         self.item(word(len(values)))
         start = len(self.data)
+        self.paths.append((start, values))
         for kind, path in values:
             self.item(word(kind))
             self.given[field + "[]"] = path

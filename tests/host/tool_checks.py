@@ -1,0 +1,336 @@
+"""The command, on files, pipes and captures."""
+import glob
+import os
+import random
+import re
+import subprocess
+import unicodedata
+
+import building
+import captures
+import encoder
+import trees
+
+SHORT = encoder.word(5) + encoder.word(0) * 5
+USAGE = "; latchplume --help tells how it is used"
+
+
+class Tool:
+    """The command under one name, run in a folder of its own."""
+
+    def __init__(self, checks, room, program):
+        self.checks, self.room, self.program = checks, room, program
+
+    def run(self, *words, data=b"", locale="C.UTF-8"):
+        environment = {**os.environ, "LC_ALL": locale, **building.ENVIRONMENT}
+        ran = subprocess.run([self.program, *words], input=data, capture_output=True, env=environment, cwd=self.room)
+        return ran.returncode, ran.stdout.decode(), ran.stderr.decode()
+
+    def file(self, name, data):
+        with open(os.path.join(self.room, name), "wb") as f:
+            f.write(data)
+        return name
+
+    def same(self, what, expected, *words, **how):
+        self.checks.same(f"latchplume {' '.join(words)}: {what}", expected, self.run(*words, **how))
+
+
+def listed(program, data):
+    """What the proved program prints."""
+    ran = subprocess.run([building.at("tests", "program"), program], input=data, capture_output=True)
+    return ran.stdout.decode() if ran.returncode == 0 else f"status {ran.returncode}: {ran.stderr.decode()}"
+
+
+def status_of(listing):
+    return 0 if listing.startswith("code=0 ") else 1
+
+
+def real():
+    """The captures from outside, by name."""
+    for path in sorted(glob.glob(building.at("tests", "captures", "*", "*.bin"))):
+        with open(path, "rb") as f:
+            yield os.path.relpath(path, building.at("tests", "captures")), f.read()
+
+
+def damaged(data, rng):
+    """One byte changed, or the end cut off."""
+    data = bytearray(data)
+    if rng.random() < 0.3:
+        return bytes(data[:rng.randrange(len(data))])
+    data[rng.randrange(len(data))] = rng.getrandbits(8)
+    return bytes(data)
+
+
+def against_the_listing(tool, rng):
+    """list and run print what the proved programs print."""
+    all_real = list(real())
+    inputs = all_real + [("damaged " + name, damaged(data, rng)) for name, data in rng.sample(all_real, 30)]
+    inputs += [("made", bytes(encoder.any_datagram(rng)[0].data)) for _ in range(10)]
+    for what, data in inputs:
+        if len(data) <= 8192 and data:
+            expected = listed("listing", data)
+            tool.same(what, (status_of(expected), expected, ""), "list", tool.file("one", data))
+    for _ in range(12):
+        data = b"".join(one for _, one in rng.sample(all_real, 3))
+        data = data if rng.random() < 0.5 else damaged(data, rng)
+        expected = listed("listing_run", data)
+        tool.same("a run", (status_of(expected), expected, ""), "run", tool.file("several", data))
+        tool.same("a run through a pipe", (status_of(expected), expected, ""), "run", "-", data=data)
+
+
+def real_shown(tool):
+    """show takes every real datagram, and refuses the ones that the listing refuses."""
+    for what, data in real():
+        status, out, said = tool.run("show", tool.file("one", data))
+        answer = tool.run("list", "one")[1].split("\n")[0]
+        tool.checks.same(f"show {what}: status", (status_of(answer), ""), (status, said))
+        if not status:
+            heads = re.findall(r"^ *(?:datagram|sample|record|counter record|PDU) \d+: ", out, re.M)
+            tool.checks.same(f"show {what}: one head for each descriptor", answer.split("descriptors=")[1], str(len(heads)))
+
+
+def troubles(tool):
+    """One clear line, and status 2, for what is no input."""
+    empty = "code=2 at=0 steps=0 descriptors=0\n"
+    long = "code=1 at=0 steps=0 descriptors=0\n"
+    tool.same("no file", (2, "", "latchplume: nowhere: there is no such file\n"), "show", "nowhere")
+    tool.same("a folder", (2, "", "latchplume: .: is a folder, not a file\n"), "list", ".")
+    tool.same("empty", (2, empty, "latchplume: nothing: is empty\n"), "list", tool.file("nothing", b""))
+    tool.same("empty", (2, "", "latchplume: nothing: is empty\n"), "show", "nothing")
+    tool.same("empty", (2, "code=0 at=0 steps=0 descriptors=0\n", "latchplume: nothing: is empty\n"), "run", "nothing")
+    tool.same("empty", (2, empty, "latchplume: standard input: is empty\n"), "list", "-")
+    most = tool.file("most", SHORT + bytes(encoder.MAX_INPUT - 24))
+    line = "code=0 at=24 steps=6 descriptors=1\nkind=0 format=0 start=0 length=24 parent=4294967295 depth=0\n"
+    tool.same("the longest", (0, line, ""), "list", most)
+    tool.same("the longest", (1, "code=3 at=24 steps=6 descriptors=0\n", ""), "run", most)
+    more = tool.file("more", SHORT + bytes(encoder.MAX_INPUT - 23))
+    for command in ("list", "run"):
+        tool.same("too long", (2, long, "latchplume: more: is longer than 16,777,216 bytes\n"), command, more)
+    shown = "datagram 1: refused: code 1: input longer than 16,777,216\n  position: 0, after 0 items that were read\n"
+    tool.same("too long", (2, shown, "latchplume: more: is longer than 16,777,216 bytes\n"), "show", more)
+    pipe = SHORT + bytes(encoder.MAX_INPUT + 5000)
+    tool.same("too long", (2, long, "latchplume: standard input: is longer than 16,777,216 bytes\n"), "list", "-", data=pipe)
+
+
+def usages(tool):
+    for words, said in (
+        ((), "list, run or show is missing"), (("list",), "a file is missing"), (("look", "one"), "there is no command look"),
+        (("list", "one", "two"), "one file at a time, and here is another: two"), (("show", "--prot", "1", "one"), "there is no option --prot"),
+        (("show", "one", "--port"), "--port takes a number from 1 to 65535"), (("show", "--port", "65536", "one"), "--port takes a number from 1 to 65535"),
+        (("show", "--port", "0", "one"), "--port takes a number from 1 to 65535"), (("show", "--port", "6x", "one"), "--port takes a number from 1 to 65535"),
+    ):
+        tool.same("usage", (2, "", f"latchplume: {said}{USAGE}\n"), *words)
+    status, out, said = tool.run("--help")
+    tool.checks.same("--help", (0, "", True), (status, said, out.startswith("usage: latchplume list")))
+    tool.file("-odd", SHORT)
+    tool.same("a name with a dash", (0, tool.run("list", "./-odd")[1], ""), "list", "--", "-odd")
+
+
+def refusals(tool, rng):
+    """show says what is wrong and marks the byte, for each code that a datagram can be refused with."""
+    for name in ("header", "extended_router", "sampled_header", "extended_80211_rx"):
+        wire, _, body, base, steps = trees.wire_of(rng, name)
+        for item, offset, code, raw in body.faults:
+            data = bytearray(wire.data)
+            data[base + offset:base + offset + len(raw)] = raw
+            status, out, said = tool.run("show", tool.file("bad", data))
+            tool.checks.same(f"show code {code}", (1, ""), (status, said))
+            trees.refusal_shown(tool.checks, out, data, code, base + offset, steps + item)
+    trees.refusal_shown(tool.checks, tool.run("show", tool.file("bad", SHORT[:22]))[1], SHORT[:22], 2, 20, 5)
+    trees.refusal_shown(tool.checks, tool.run("show", tool.file("bad", SHORT[:16]))[1], SHORT[:16], 2, 16, 4)
+    left = tool.run("show", tool.file("bad", SHORT + b"abc"))
+    tool.checks.same("show: bytes left over", (1, True), (left[0], left[1].startswith("datagram 1: 24 bytes at 0\n")))
+    trees.refusal_shown(tool.checks, left[1][left[1].index("datagram 2"):], SHORT + b"abc", 2, 24, 0)
+
+
+def trees_shown(tool, rng):
+    """Every field that the encoder put in stands in the tree, in order and by its name."""
+    for number in range(60):
+        wire, _ = encoder.any_datagram(rng)
+        if number % 3 == 0:
+            encoder.any_datagram(rng, wire)
+        status, out, said = tool.run("show", "--full", tool.file("tree", wire.data))
+        tool.checks.same("show: status", (0, ""), (status, said))
+        tool.checks.same("show: the fields", trees.expected_fields(wire), trees.fields_of(out))
+    for name, given, lines in trees.EXAMPLES:
+        wire = trees.wire_with(rng, name, given)
+        out = tool.run("show", tool.file("tree", wire.data))[1]
+        for line in lines:
+            tool.checks.same(f"show {name}: {line}", True, line in [one.strip() for one in out.split("\n")])
+
+
+def harmless(character):
+    return character == "\n" or (character.isprintable() and unicodedata.category(character) not in ("Cc", "Cf", "Cs", "Co", "Cn", "Zl", "Zp"))
+
+
+def nothing_raw(tool, rng):
+    """No character that a terminal obeys, hides or turns around comes out as it came in."""
+    bad = [c for c in map(chr, range(0x110000)) if unicodedata.category(c) in ("Cc", "Cf", "Zl", "Zp", "Co", "Zs") and c != " "]
+    chosen = [c for c in bad if ord(c) < 0xe000] + rng.sample([c for c in bad if ord(c) >= 0xe000], 200)
+    for locale in ("C.UTF-8", "C"):
+        for i in range(0, len(chosen), 60):
+            part = "".join(chosen[i:i + 60])
+            wire = trees.wire_with(rng, "extended_80211_rx", {"ssid": part})
+            status, out, _ = tool.run("show", "--full", tool.file("ssid", wire.data), locale=locale)
+            escaped = "".join({"\n": "\\n", "\t": "\\t"}.get(c, "\\u{%x}" % ord(c)) for c in part)
+            tool.checks.same(f"an SSID of bad characters in {locale}", (0, True, True), (status, f'ssid: "{escaped}"' in out, all(map(harmless, out))))
+    wire = trees.wire_with(rng, "extended_80211_rx", {"ssid": "Zürich \"日本\" \\ 😀"})
+    tool.file("ssid", wire.data)
+    tool.checks.same("an SSID in UTF-8", True, 'ssid: "Zürich \\"日本\\" \\\\ 😀"\n' in tool.run("show", "ssid")[1])
+    tool.checks.same("an SSID in ASCII", True, 'ssid: "Z\\u{fc}rich \\"\\u{65e5}\\u{672c}\\" \\\\ \\u{1f600}"\n' in tool.run("show", "ssid", locale="C")[1])
+
+
+def long_fields(tool, rng):
+    """A long field is cut, and said to be; --full prints all of it."""
+    wire = trees.wire_with(rng, "extended_vlan_tunnel", {"stack": list(range(300))})
+    tool.file("long", wire.data)
+    cut, full = tool.run("show", "long")[1], tool.run("show", "--full", "long")[1]
+    tool.checks.same("a long list", (True, False, True), ("and 44 more\n" in cut, "  299 (" in cut, "  299 (" in full))
+    wire = trees.wire_with(rng, "extended_url", {"url": "é" * 200})
+    cut, full = tool.run("show", tool.file("long", wire.data))[1], tool.run("show", "--full", "long")[1]
+    tool.checks.same("a long string", (True, True), ('"' + "é" * 128 + '" and 144 more bytes\n' in cut, "é" * 200 in full))
+    wire = trees.wire_with(rng, "sampled_header", {"header": bytes(300)})
+    cut, full = tool.run("show", tool.file("long", wire.data))[1], tool.run("show", "--full", "long")[1]
+    tool.checks.same("long bytes", (True, 16, 19), ("and 44 more bytes\n" in cut, cut.count(": " + " 00" * 4), full.count(": " + " 00" * 4)))
+
+
+def frames():
+    """Ways in which a capture holds a datagram: what it is, the link type, and the frame."""
+    v4, v6 = captures.ipv4(captures.udp(SHORT)), captures.ipv6(captures.udp(SHORT))
+    for what, packet in (("IPv4", v4), ("IPv6", v6)):
+        yield what, captures.ETHERNET, captures.ethernet(packet)
+        yield what + ", a VLAN tag", captures.ETHERNET, captures.ethernet(packet, [0x8100])
+        yield what + ", two VLAN tags", captures.ETHERNET, captures.ethernet(packet, [0x88a8, 0x8100])
+        yield what + ", padded", captures.ETHERNET, captures.ethernet(packet) + b"\xaa" * 20
+        yield what + ", cooked", captures.SLL, captures.cooked(packet)
+        yield what + ", cooked v2", captures.SLL2, captures.cooked2(packet)
+        yield what + ", raw", captures.RAW, packet
+        yield what + ", loopback", captures.NULL, captures.loopback(packet)
+        yield what + ", loopback, other order", captures.LOOP, captures.loopback(packet, ">")
+    yield "IPv4 with options", captures.RAW, captures.ipv4(captures.udp(SHORT), options=bytes(8))
+    yield "IPv4 of no length", captures.RAW, captures.ipv4(captures.udp(SHORT), total=0)
+    yield "IPv6 with extensions", captures.RAW, captures.ipv6(captures.udp(SHORT), 0, bytes([60]) + bytes(7) + bytes([17, 1]) + bytes(14))
+    yield "IPv6, one fragment in all", captures.RAW, captures.ipv6(captures.udp(SHORT), 44, bytes([17]) + bytes(7))
+
+
+def in_captures(tool):
+    """Each way that a datagram can be in a capture, in each form that a capture has."""
+    line = "code=0 at=24 steps=6 descriptors=1\nkind=0 format=0 start=0 length=24 parent=4294967295 depth=0\n"
+    expected = (0, "packet 1\n" + line + "1 packets: 1 datagrams, 0 cut, 0 fragments, 0 others\n", "")
+    for what, link, frame in frames():
+        for form, data in (("pcap", captures.pcap([frame], link)), ("pcap, big-endian", captures.pcap([frame], link, ">")),
+                           ("pcap, nanoseconds", captures.pcap([frame], link, nanoseconds=True)),
+                           ("pcapng", captures.pcapng([frame], link)), ("pcapng, big-endian", captures.pcapng([frame], link, ">"))):
+            tool.same(f"{what} in {form}", expected, "list", tool.file("capture", data))
+            tool.same(f"{what} in {form} through a pipe", expected, "run", "-", data=data)
+
+
+def counted(tool, frames_in, what, expected, *words, link=captures.RAW, snap=65535):
+    """What becomes of these frames: the status, and the lines about packets."""
+    status, out, said = tool.run("list", *words, tool.file("capture", captures.pcap(frames_in, link, snap=snap)))
+    lines = [line for line in out.split("\n") if "packet" in line]
+    tool.checks.same(f"capture: {what}", expected, (status, *lines, said))
+
+
+def odd_packets(tool):
+    """Cut, fragmented and other packets."""
+    good, data = captures.ipv4(captures.udp(SHORT)), captures.udp(SHORT)
+    none = "latchplume: capture: has no UDP packet to port 6343 (--port names another)\n"
+    counted(tool, [good, good], "two", (0, "packet 1", "packet 2", "2 packets: 2 datagrams, 0 cut, 0 fragments, 0 others", ""))
+    counted(tool, [good[:-1]], "IP announces more", (1, "packet 1 is cut, and not decoded: 23 bytes of 24 are there", "1 packets: 0 datagrams, 1 cut, 0 fragments, 0 others", ""))
+    counted(tool, [good], "captured in part", (1, "packet 1 is cut, and not decoded: 12 bytes of 24 are there", "1 packets: 0 datagrams, 1 cut, 0 fragments, 0 others", ""), snap=40)
+    counted(tool, [captures.ipv4(captures.udp(SHORT, announced=7))], "UDP of no length", (1, "packet 1 is cut, and not decoded: 24 bytes of 0 are there", "1 packets: 0 datagrams, 1 cut, 0 fragments, 0 others", ""))
+    pieces = [captures.ipv4(captures.udp(SHORT, announced=60), piece=0x2000), captures.ipv4(bytes(28), piece=4)]
+    counted(tool, pieces, "fragments of IPv4", (1, "packet 1 is in fragments, and not decoded: 24 bytes of 52 are in the first", "2 packets: 0 datagrams, 0 cut, 2 fragments, 0 others", ""))
+    pieces = [captures.ipv6(data, 44, bytes((17, 0, 0, 1, 0, 0, 0, 9))), captures.ipv6(bytes(28), 44, bytes((17, 0, 0, 32, 0, 0, 0, 9)))]
+    counted(tool, pieces, "fragments of IPv6", (1, "packet 1 is in fragments, and not decoded: 24 bytes of 24 are in the first", "2 packets: 0 datagrams, 0 cut, 2 fragments, 0 others", ""))
+    others = [captures.ipv4(data, 6), captures.ipv4(captures.udp(SHORT, 53)), b"", b"\x45", good[:27], captures.ipv6(data, 6), captures.ipv6(data, 0, b"")]
+    counted(tool, others, "others", (2, "7 packets: 0 datagrams, 0 cut, 0 fragments, 7 others", none))
+    counted(tool, [captures.ipv4(captures.udp(SHORT, 53))], "--port", (0, "packet 1", "1 packets: 1 datagrams, 0 cut, 0 fragments, 0 others", ""), "--port", "53")
+    counted(tool, [], "no packet", (2, "0 packets: 0 datagrams, 0 cut, 0 fragments, 0 others", none))
+    arp = captures.ethernet(bytes(28), kind=0x0806)
+    counted(tool, [arp, captures.ethernet(good)], "ARP", (0, "packet 2", "2 packets: 1 datagrams, 0 cut, 0 fragments, 1 others", ""), link=captures.ETHERNET)
+    status, out, said = tool.run("list", tool.file("capture", captures.pcap([good], 147)))
+    tool.checks.same("capture: link type", (2, "", True), (status, out, said.startswith("latchplume: capture: packets of the link type ")))
+    whole = captures.pcap([good, good], captures.RAW)
+    status, out, said = tool.run("list", tool.file("capture", whole[:-3]))
+    tool.checks.same("capture: ends early", (2, True, 1), (status, "packet 1\ncode=0" in out, said.count("\n")))
+    status, out, said = tool.run("show", tool.file("capture", captures.pcap([captures.ipv4(captures.udp(SHORT + b"abc"))], captures.RAW)))
+    tool.checks.same("capture: bytes behind a datagram are no fault", (0, ""), (status, said))
+
+
+def real_in_captures(tool, rng):
+    """The real datagrams as packets of one capture: each packet's listing is the datagram's own."""
+    all_real = list(real())
+    data = captures.pcapng([captures.ethernet(captures.ipv6(captures.udp(one))) for _, one in all_real])
+    status, out, said = tool.run("list", tool.file("capture", data))
+    expected = "".join(f"packet {i + 1}\n" + tool.run("list", tool.file("one", one))[1] for i, (_, one) in enumerate(all_real))
+    expected += f"{len(all_real)} packets: {len(all_real)} datagrams, 0 cut, 0 fragments, 0 others\n"
+    tool.checks.same("the real datagrams in a capture", (1, expected, ""), (status, out, said))
+
+
+def damaged_files(tool, rng, count):
+    """Whatever is in a file, the command ends by itself, with a status of its own and without a fault of memory."""
+    seeds = [captures.pcap([f for _, l, f in frames() if l == captures.RAW], captures.RAW), captures.pcapng([f for _, l, f in frames() if l == captures.ETHERNET])]
+    seeds += [one for _, one in rng.sample(list(real()), 10)] + [bytes(encoder.any_datagram(rng)[0].data) for _ in range(10)]
+    for number in range(count):
+        data = rng.choice(seeds)
+        for _ in range(rng.randint(1, 4)):
+            data = damaged(data, rng) or SHORT
+        status, _, said = tool.run(("show", "show", "list", "run")[number % 4], tool.file("damaged", data))
+        tool.checks.holds("a damaged file", status in (0, 1, 2) and said.count("\n") <= 1, f"status {status}: {said[-1500:]}")
+
+
+def without_libpcap(checks, room):
+    tool = Tool(checks, room, building.made("latchplume-bare"))
+    tool.file("capture", captures.pcap([], captures.RAW))
+    said = "latchplume: capture: pcap files are not read here, since libpcap-dev was missing: install it and run ./latchplume again\n"
+    tool.same("no libpcap", (2, "", said), "show", "capture")
+    tool.same("no libpcap", (0, "code=0 at=24 steps=6 descriptors=1\nkind=0 format=0 start=0 length=24 parent=4294967295 depth=0\n", ""), "list", tool.file("one", SHORT))
+
+
+def fake(room, name, text):
+    """A folder with a program of this name in it."""
+    folder = os.path.join(room, "fake")
+    os.makedirs(folder, exist_ok=True)
+    path = os.path.join(folder, name)
+    with open(path, "w") as f:
+        f.write("#!/bin/sh\n" + text)
+    os.chmod(path, 0o755)
+    return folder
+
+
+def the_script(checks, room):
+    """./latchplume builds what is missing, here without libpcap at first, and says nothing of it where all is well."""
+    tool = Tool(checks, room, building.at("latchplume"))
+    built = building.at("target", "native", "latchplume")
+    one, capture = tool.file("one", SHORT), tool.file("capture", captures.pcap([captures.ipv4(captures.udp(SHORT))], captures.RAW))
+    listing = "code=0 at=24 steps=6 descriptors=1\nkind=0 format=0 start=0 length=24 parent=4294967295 depth=0\n"
+    missing = "latchplume: libpcap is missing, so pcap files are not read: apt-get install libpcap-dev\n"
+    if os.path.exists(built):
+        os.remove(built)
+    fake(room, "cc", 'case "$*" in "-E -") exit 1 ;; esac\nexec gcc "$@"\n')
+    before = os.environ["PATH"]
+    os.environ["PATH"] = fake(room, "id", "echo 1000\n") + ":" + before
+    try:
+        tool.same("built without libpcap", (0, listing, missing), "list", one)
+        tool.same("not built again", (0, listing, ""), "list", one)
+    finally:
+        os.environ["PATH"] = before
+    tool.same("built with libpcap", (0, f"packet 1\n{listing}1 packets: 1 datagrams, 0 cut, 0 fragments, 0 others\n", ""), "list", capture)
+    status, out, said = tool.run("show", building.at("tests", "captures", "ovs-agent-v4", "0001.bin"))
+    checks.same("latchplume show: a real datagram", (0, True, ""), (status, "agent_address: 127.0.0.1" in out, said))
+    tool.same("no file", (2, "", "latchplume: nowhere: there is no such file\n"), "list", "nowhere")
+
+
+def check_all(checks, room):
+    rng = random.Random(7)
+    against_the_listing(Tool(checks, room, building.made("latchplume")), rng)
+    tool = Tool(checks, room, building.made("latchplume-checked"))
+    for part in (real_shown, troubles, usages, in_captures, odd_packets):
+        part(tool)
+    for part in (refusals, trees_shown, nothing_raw, long_fields, real_in_captures):
+        part(tool, rng)
+    damaged_files(tool, rng, 200)
+    without_libpcap(checks, room)
+    the_script(checks, room)
