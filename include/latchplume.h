@@ -529,7 +529,10 @@ typedef struct latchplume_segment {
     latchplume_span path; /* a list */
 } latchplume_segment;
 
-/* The segment that begins at `at`. On code 0, outcome.at is where the next one begins. */
+/*
+ * The segment that begins at `at`. On code 0, outcome.at is where the next one begins. It is refused with 1 as a field reading is,
+ * with 10 where `at` lies behind the input, and with 2.
+ */
 latchplume_segment latchplume_next_segment(const uint8_t *data, size_t length, size_t at);
 
 #ifdef __cplusplus

@@ -31,7 +31,8 @@ static void title(const uint32_t *one, unsigned long number, const struct layout
         const char *name = layout ? layout->name : name_of_format(kind, format.word);
         printf("%s, format %" PRIu32 ":%" PRIu32 ", ", name ? name : "unknown", latchplume_enterprise(format), latchplume_format_number(format));
     }
-    printf("%" PRIu32 " bytes at %" PRIu32 "%s\n", one[LATCHPLUME_LENGTH], one[LATCHPLUME_START], layout || kind == LATCHPLUME_PDU ? "" : ", kept raw");
+    const char *raw = layout || kind == LATCHPLUME_PDU ? "" : ", kept raw";
+    printf("%" PRIu32 " bytes at %" PRIu32 "%s\n", one[LATCHPLUME_LENGTH], one[LATCHPLUME_START], raw);
 }
 
 static bool fields(const struct shown *s, const uint32_t *one, const struct layout *layout)

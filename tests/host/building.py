@@ -48,7 +48,7 @@ def find_library():
 def exported(archive):
     """The names of the library's functions."""
     listed = subprocess.run(["nm", "--defined-only", "-g", archive], stdout=subprocess.PIPE, text=True, check=True).stdout
-    return sorted(re.findall(r" T (latchplume_\w+)", listed))
+    return re.findall(r" T (latchplume_\w+)", listed)
 
 
 def declared():

@@ -139,9 +139,10 @@ def still(checks, rng, most):
         send(bad if number % 10 == 0 else one)
     collector.drain()
     after, seconds = collector.memory(), time.monotonic() - begun
-    print(f"collector: {most} datagrams in {seconds:.1f} s, VmRSS {before[0]} kB before and {after[0]} kB after (page by page {before[1]} and {after[1]})")
+    print(f"collector: {most} datagrams in {seconds:.1f} s, VmRSS {before[0]} kB, then {after[0]} kB; page by page {before[1]}, then {after[1]}")
     checks.same("collector: resident memory, page by page", before[1], after[1])
-    checks.holds("collector: VmRSS", abs(after[0] - before[0]) <= 64, f"{before[0]} kB, then {after[0]} kB")
+    # the kernel keeps this number only to within some pages for each processor
+    checks.holds("collector: VmRSS", abs(after[0] - before[0]) <= 512, f"{before[0]} kB, then {after[0]} kB")
     found, status = collector.end()
     total = sum(sum(counts.values()) for counts in found.values())
     checks.same("collector: all were counted", (most + 4, most // 10 + 1, 0), (total, found["no agent"].get("code3"), status))

@@ -52,7 +52,7 @@ class Script:
         self.ask("payload", "payload " + " ".join(map(str, row)), f"payload {start}+{count}")
 
     def word(self, start, count, n, value):
-        answer = f"present=0 value=0" if value is None else f"present=1 value={value}"
+        answer = "present=0 value=0" if value is None else f"present=1 value={value}"
         self.ask("word", f"word {start} {count} {n}", f"word {answer}")
 
     def segment(self, at, code, end, steps, kind=0, path="0+0"):
@@ -209,6 +209,8 @@ def longest(s, rng):
         s.read_refused(body, (kind, form, 0, 24, 0, 0), 1)
         s.read_refused(body, (kind + 9, form, NOBODY, 24, 0, 0), 1)
     s.payload(wire.rows[0], 0, 0)
+    s.segment(0, 1, 0, 0)
+    s.word(0, 1, 0, 5)
 
 
 def nothing(s, rng):
@@ -241,7 +243,9 @@ def ranges_and_kinds(s, rng):
         body = Body(name, rng)
         size = len(body.data)
         s.data(body.data)
-        past = [(size, 1), (size + 1, 0), (0, size + 1), (1, size), (NOBODY, 1), (NOBODY, NOBODY), (1, NOBODY), (1 << 31, 1 << 31), (NOBODY - 3, 4 + size)]
+        half = 1 << 31
+        past = [(size, 1), (size + 1, 0), (0, size + 1), (1, size)]
+        past += [(NOBODY, 1), (NOBODY, NOBODY), (1, NOBODY), (half, half), (NOBODY - 3, 4 + size)]
         for start, length in past:
             s.read_refused(body, (kind, form, start, length, 0, 0), 10)
             s.read_refused(body, (kind + 1, form + 1, start, length, 0, 0), 10)
@@ -249,7 +253,7 @@ def ranges_and_kinds(s, rng):
         for other, (other_kind, other_form, _) in LAYOUTS.items():
             if other != name:
                 s.read_refused(body, (other_kind, other_form, 0, size, 0, 0), 11)
-        for wrong in ((kind, form + (1 << 12)), (kind, form | 1 << 31), (kind + 1, form), (4, 0), (3, form), (kind + 256, form), (NOBODY, form)):
+        for wrong in ((kind, form + (1 << 12)), (kind, form | half), (kind + 1, form), (4, 0), (3, form), (kind + 256, form), (NOBODY, form)):
             s.read_refused(body, (*wrong, 0, size, 0, 0), 11)
         s.read_whole(body, (kind, form, 0, size, rng.getrandbits(32), rng.getrandbits(32)), 0)
 
@@ -275,6 +279,8 @@ def words_and_segments(s, rng):
             s.segment(0, 2, 4 * item, item)
     s.data(path)
     s.segment(len(path), 2, len(path), 0)
+    s.segment(len(path) + 1, 10, 0, 0)
+    s.segment(MOST, 10, 0, 0)
     s.segment(4, 2, 20, 4)
 
 

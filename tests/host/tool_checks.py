@@ -11,7 +11,9 @@ import captures
 import encoder
 import trees
 
+# a datagram without samples, and its listing
 SHORT = encoder.word(5) + encoder.word(0) * 5
+SHORT_LISTED = "code=0 at=24 steps=6 descriptors=1\nkind=0 format=0 start=0 length=24 parent=4294967295 depth=0\n"
 USAGE = "; latchplume --help tells how it is used"
 
 
@@ -100,8 +102,7 @@ def troubles(tool):
     tool.same("empty", (2, "code=0 at=0 steps=0 descriptors=0\n", "latchplume: nothing: is empty\n"), "run", "nothing")
     tool.same("empty", (2, empty, "latchplume: standard input: is empty\n"), "list", "-")
     most = tool.file("most", SHORT + bytes(encoder.MAX_INPUT - 24))
-    line = "code=0 at=24 steps=6 descriptors=1\nkind=0 format=0 start=0 length=24 parent=4294967295 depth=0\n"
-    tool.same("the longest", (0, line, ""), "list", most)
+    tool.same("the longest", (0, SHORT_LISTED, ""), "list", most)
     tool.same("the longest", (1, "code=3 at=24 steps=6 descriptors=0\n", ""), "run", most)
     more = tool.file("more", SHORT + bytes(encoder.MAX_INPUT - 23))
     for command in ("list", "run"):
@@ -113,13 +114,13 @@ def troubles(tool):
 
 
 def usages(tool):
+    port = "--port takes a number from 1 to 65535"
     for words, said in (
-        ((), "list, run or show is missing"), (("list",), "a file is missing"), (("look", "one"), "there is no command look"),
-        (("list", "one", "two"), "one file at a time, and here is another: two"), (("show", "--prot", "1", "one"), "there is no option --prot"),
-        (("show", "one", "--port"), "--port takes a number from 1 to 65535"), (("show", "--port", "65536", "one"), "--port takes a number from 1 to 65535"),
-        (("show", "--port", "0", "one"), "--port takes a number from 1 to 65535"), (("show", "--port", "6x", "one"), "--port takes a number from 1 to 65535"),
+        ("", "list, run or show is missing"), ("list", "a file is missing"), ("look one", "there is no command look"),
+        ("list one two", "one file at a time, and here is another: two"), ("show --prot 1 one", "there is no option --prot"),
+        ("show one --port", port), ("show --port 65536 one", port), ("show --port 0 one", port), ("show --port 6x one", port),
     ):
-        tool.same("usage", (2, "", f"latchplume: {said}{USAGE}\n"), *words)
+        tool.same("usage", (2, "", f"latchplume: {said}{USAGE}\n"), *words.split())
     status, out, said = tool.run("--help")
     tool.checks.same("--help", (0, "", True), (status, said, out.startswith("usage: latchplume list")))
     tool.file("-odd", SHORT)
@@ -173,11 +174,12 @@ def nothing_raw(tool, rng):
             wire = trees.wire_with(rng, "extended_80211_rx", {"ssid": part})
             status, out, _ = tool.run("show", "--full", tool.file("ssid", wire.data), locale=locale)
             escaped = "".join({"\n": "\\n", "\t": "\\t"}.get(c, "\\u{%x}" % ord(c)) for c in part)
-            tool.checks.same(f"an SSID of bad characters in {locale}", (0, True, True), (status, f'ssid: "{escaped}"' in out, all(map(harmless, out))))
+            got = status, f'ssid: "{escaped}"' in out, all(map(harmless, out))
+            tool.checks.same(f"an SSID of bad characters in {locale}", (0, True, True), got)
     wire = trees.wire_with(rng, "extended_80211_rx", {"ssid": "Zürich \"日本\" \\ 😀"})
     tool.file("ssid", wire.data)
-    tool.checks.same("an SSID in UTF-8", True, 'ssid: "Zürich \\"日本\\" \\\\ 😀"\n' in tool.run("show", "ssid")[1])
-    tool.checks.same("an SSID in ASCII", True, 'ssid: "Z\\u{fc}rich \\"\\u{65e5}\\u{672c}\\" \\\\ \\u{1f600}"\n' in tool.run("show", "ssid", locale="C")[1])
+    for locale, line in (("C.UTF-8", r'ssid: "Zürich \"日本\" \\ 😀"'), ("C", r'ssid: "Z\u{fc}rich \"\u{65e5}\u{672c}\" \\ \u{1f600}"')):
+        tool.checks.same(f"an SSID in {locale}", True, line + "\n" in tool.run("show", "ssid", locale=locale)[1])
 
 
 def long_fields(tool, rng):
@@ -215,8 +217,7 @@ def frames():
 
 def in_captures(tool):
     """Each way that a datagram can be in a capture, in each form that a capture has."""
-    line = "code=0 at=24 steps=6 descriptors=1\nkind=0 format=0 start=0 length=24 parent=4294967295 depth=0\n"
-    expected = (0, "packet 1\n" + line + "1 packets: 1 datagrams, 0 cut, 0 fragments, 0 others\n", "")
+    expected = (0, f"packet 1\n{SHORT_LISTED}{summary(1, 1)}\n", "")
     for what, link, frame in frames():
         for form, data in (("pcap", captures.pcap([frame], link)), ("pcap, big-endian", captures.pcap([frame], link, ">")),
                            ("pcap, nanoseconds", captures.pcap([frame], link, nanoseconds=True)),
@@ -225,37 +226,62 @@ def in_captures(tool):
             tool.same(f"{what} in {form} through a pipe", expected, "run", "-", data=data)
 
 
-def counted(tool, frames_in, what, expected, *words, link=captures.RAW, snap=65535):
+def summary(everything, datagrams=0, cut=0, fragments=0, others=0):
+    return f"{everything} packets: {datagrams} datagrams, {cut} cut, {fragments} fragments, {others} others"
+
+
+def counted(tool, what, frames_in, expected, *words, link=captures.RAW, snap=65535):
     """What becomes of these frames: the status, and the lines about packets."""
     status, out, said = tool.run("list", *words, tool.file("capture", captures.pcap(frames_in, link, snap=snap)))
     lines = [line for line in out.split("\n") if "packet" in line]
     tool.checks.same(f"capture: {what}", expected, (status, *lines, said))
 
 
-def odd_packets(tool):
-    """Cut, fragmented and other packets."""
-    good, data = captures.ipv4(captures.udp(SHORT)), captures.udp(SHORT)
-    none = "latchplume: capture: has no UDP packet to port 6343 (--port names another)\n"
-    counted(tool, [good, good], "two", (0, "packet 1", "packet 2", "2 packets: 2 datagrams, 0 cut, 0 fragments, 0 others", ""))
-    counted(tool, [good[:-1]], "IP announces more", (1, "packet 1 is cut, and not decoded: 23 bytes of 24 are there", "1 packets: 0 datagrams, 1 cut, 0 fragments, 0 others", ""))
-    counted(tool, [good], "captured in part", (1, "packet 1 is cut, and not decoded: 12 bytes of 24 are there", "1 packets: 0 datagrams, 1 cut, 0 fragments, 0 others", ""), snap=40)
-    counted(tool, [captures.ipv4(captures.udp(SHORT, announced=7))], "UDP of no length", (1, "packet 1 is cut, and not decoded: 24 bytes of 0 are there", "1 packets: 0 datagrams, 1 cut, 0 fragments, 0 others", ""))
+def cut_packets(tool):
+    """A packet with fewer bytes than are announced, by the capture, by IP or by UDP, is not decoded."""
+    good = captures.ipv4(captures.udp(SHORT))
+
+    def expected(there, announced):
+        return 1, f"packet 1 is cut, and not decoded: {there} bytes of {announced} are there", summary(1, cut=1), ""
+    counted(tool, "IP announces more", [good[:-1]], expected(23, 24))
+    counted(tool, "captured in part", [good], expected(12, 24), snap=40)
+    counted(tool, "UDP announces more", [captures.ipv4(captures.udp(SHORT, announced=33))], expected(24, 25))
+    counted(tool, "UDP of no length", [captures.ipv4(captures.udp(SHORT, announced=7))], expected(24, 0))
+
+
+def fragments(tool):
+    def expected(there, announced):
+        said = f"packet 1 is in fragments, and not decoded: {there} bytes of {announced} are in the first"
+        return 1, said, summary(2, fragments=2), ""
     pieces = [captures.ipv4(captures.udp(SHORT, announced=60), piece=0x2000), captures.ipv4(bytes(28), piece=4)]
-    counted(tool, pieces, "fragments of IPv4", (1, "packet 1 is in fragments, and not decoded: 24 bytes of 52 are in the first", "2 packets: 0 datagrams, 0 cut, 2 fragments, 0 others", ""))
-    pieces = [captures.ipv6(data, 44, bytes((17, 0, 0, 1, 0, 0, 0, 9))), captures.ipv6(bytes(28), 44, bytes((17, 0, 0, 32, 0, 0, 0, 9)))]
-    counted(tool, pieces, "fragments of IPv6", (1, "packet 1 is in fragments, and not decoded: 24 bytes of 24 are in the first", "2 packets: 0 datagrams, 0 cut, 2 fragments, 0 others", ""))
-    others = [captures.ipv4(data, 6), captures.ipv4(captures.udp(SHORT, 53)), b"", b"\x45", good[:27], captures.ipv6(data, 6), captures.ipv6(data, 0, b"")]
-    counted(tool, others, "others", (2, "7 packets: 0 datagrams, 0 cut, 0 fragments, 7 others", none))
-    counted(tool, [captures.ipv4(captures.udp(SHORT, 53))], "--port", (0, "packet 1", "1 packets: 1 datagrams, 0 cut, 0 fragments, 0 others", ""), "--port", "53")
-    counted(tool, [], "no packet", (2, "0 packets: 0 datagrams, 0 cut, 0 fragments, 0 others", none))
+    counted(tool, "fragments of IPv4", pieces, expected(24, 52))
+    first, later = bytes((17, 0, 0, 1, 0, 0, 0, 9)), bytes((17, 0, 0, 32, 0, 0, 0, 9))
+    pieces = [captures.ipv6(captures.udp(SHORT, announced=60), 44, first), captures.ipv6(bytes(28), 44, later)]
+    counted(tool, "fragments of IPv6", pieces, expected(24, 52))
+
+
+def other_packets(tool):
+    """What is not for the port is counted, and a capture without any datagram is said to be one."""
+    data = captures.udp(SHORT)
+    good, domain = captures.ipv4(data), captures.ipv4(captures.udp(SHORT, 53))
+    none = "latchplume: capture: has no UDP packet to port 6343 (--port names another)\n"
+    counted(tool, "two", [good, good], (0, "packet 1", "packet 2", summary(2, 2), ""))
+    others = [captures.ipv4(data, 6), domain, b"", b"\x45", good[:27], captures.ipv6(data, 6), captures.ipv6(data, 0)]
+    counted(tool, "others", others, (2, summary(7, others=7), none))
+    counted(tool, "--port", [domain], (0, "packet 1", summary(1, 1), ""), "--port", "53")
+    counted(tool, "no packet", [], (2, summary(0), none))
     arp = captures.ethernet(bytes(28), kind=0x0806)
-    counted(tool, [arp, captures.ethernet(good)], "ARP", (0, "packet 2", "2 packets: 1 datagrams, 0 cut, 0 fragments, 1 others", ""), link=captures.ETHERNET)
+    counted(tool, "ARP", [arp, captures.ethernet(good)], (0, "packet 2", summary(2, 1, others=1), ""), link=captures.ETHERNET)
+
+
+def bad_captures(tool):
+    good = captures.ipv4(captures.udp(SHORT))
     status, out, said = tool.run("list", tool.file("capture", captures.pcap([good], 147)))
     tool.checks.same("capture: link type", (2, "", True), (status, out, said.startswith("latchplume: capture: packets of the link type ")))
-    whole = captures.pcap([good, good], captures.RAW)
-    status, out, said = tool.run("list", tool.file("capture", whole[:-3]))
+    status, out, said = tool.run("list", tool.file("capture", captures.pcap([good, good], captures.RAW)[:-3]))
     tool.checks.same("capture: ends early", (2, True, 1), (status, "packet 1\ncode=0" in out, said.count("\n")))
-    status, out, said = tool.run("show", tool.file("capture", captures.pcap([captures.ipv4(captures.udp(SHORT + b"abc"))], captures.RAW)))
+    longer = captures.pcap([captures.ipv4(captures.udp(SHORT + b"abc"))], captures.RAW)
+    status, out, said = tool.run("show", tool.file("capture", longer))
     tool.checks.same("capture: bytes behind a datagram are no fault", (0, ""), (status, said))
 
 
@@ -265,13 +291,14 @@ def real_in_captures(tool, rng):
     data = captures.pcapng([captures.ethernet(captures.ipv6(captures.udp(one))) for _, one in all_real])
     status, out, said = tool.run("list", tool.file("capture", data))
     expected = "".join(f"packet {i + 1}\n" + tool.run("list", tool.file("one", one))[1] for i, (_, one) in enumerate(all_real))
-    expected += f"{len(all_real)} packets: {len(all_real)} datagrams, 0 cut, 0 fragments, 0 others\n"
+    expected += summary(len(all_real), len(all_real)) + "\n"
     tool.checks.same("the real datagrams in a capture", (1, expected, ""), (status, out, said))
 
 
 def damaged_files(tool, rng, count):
     """Whatever is in a file, the command ends by itself, with a status of its own and without a fault of memory."""
-    seeds = [captures.pcap([f for _, l, f in frames() if l == captures.RAW], captures.RAW), captures.pcapng([f for _, l, f in frames() if l == captures.ETHERNET])]
+    of_link = {link: [frame for _, one, frame in frames() if one == link] for link in (captures.RAW, captures.ETHERNET)}
+    seeds = [captures.pcap(of_link[captures.RAW], captures.RAW), captures.pcapng(of_link[captures.ETHERNET])]
     seeds += [one for _, one in rng.sample(list(real()), 10)] + [bytes(encoder.any_datagram(rng)[0].data) for _ in range(10)]
     for number in range(count):
         data = rng.choice(seeds)
@@ -284,9 +311,9 @@ def damaged_files(tool, rng, count):
 def without_libpcap(checks, room):
     tool = Tool(checks, room, building.made("latchplume-bare"))
     tool.file("capture", captures.pcap([], captures.RAW))
-    said = "latchplume: capture: pcap files are not read here, since libpcap-dev was missing: install it and run ./latchplume again\n"
-    tool.same("no libpcap", (2, "", said), "show", "capture")
-    tool.same("no libpcap", (0, "code=0 at=24 steps=6 descriptors=1\nkind=0 format=0 start=0 length=24 parent=4294967295 depth=0\n", ""), "list", tool.file("one", SHORT))
+    why = "pcap files are not read here, since libpcap-dev was missing: install it and run ./latchplume again"
+    tool.same("no libpcap", (2, "", f"latchplume: capture: {why}\n"), "show", "capture")
+    tool.same("no libpcap", (0, SHORT_LISTED, ""), "list", tool.file("one", SHORT))
 
 
 def fake(room, name, text):
@@ -305,7 +332,6 @@ def the_script(checks, room):
     tool = Tool(checks, room, building.at("latchplume"))
     built = building.at("target", "native", "latchplume")
     one, capture = tool.file("one", SHORT), tool.file("capture", captures.pcap([captures.ipv4(captures.udp(SHORT))], captures.RAW))
-    listing = "code=0 at=24 steps=6 descriptors=1\nkind=0 format=0 start=0 length=24 parent=4294967295 depth=0\n"
     missing = "latchplume: libpcap is missing, so pcap files are not read: apt-get install libpcap-dev\n"
     if os.path.exists(built):
         os.remove(built)
@@ -313,11 +339,11 @@ def the_script(checks, room):
     before = os.environ["PATH"]
     os.environ["PATH"] = fake(room, "id", "echo 1000\n") + ":" + before
     try:
-        tool.same("built without libpcap", (0, listing, missing), "list", one)
-        tool.same("not built again", (0, listing, ""), "list", one)
+        tool.same("built without libpcap", (0, SHORT_LISTED, missing), "list", one)
+        tool.same("not built again", (0, SHORT_LISTED, ""), "list", one)
     finally:
         os.environ["PATH"] = before
-    tool.same("built with libpcap", (0, f"packet 1\n{listing}1 packets: 1 datagrams, 0 cut, 0 fragments, 0 others\n", ""), "list", capture)
+    tool.same("built with libpcap", (0, f"packet 1\n{SHORT_LISTED}{summary(1, 1)}\n", ""), "list", capture)
     status, out, said = tool.run("show", building.at("tests", "captures", "ovs-agent-v4", "0001.bin"))
     checks.same("latchplume show: a real datagram", (0, True, ""), (status, "agent_address: 127.0.0.1" in out, said))
     tool.same("no file", (2, "", "latchplume: nowhere: there is no such file\n"), "list", "nowhere")
@@ -327,7 +353,7 @@ def check_all(checks, room):
     rng = random.Random(7)
     against_the_listing(Tool(checks, room, building.made("latchplume")), rng)
     tool = Tool(checks, room, building.made("latchplume-checked"))
-    for part in (real_shown, troubles, usages, in_captures, odd_packets):
+    for part in (real_shown, troubles, usages, in_captures, cut_packets, fragments, other_packets, bad_captures):
         part(tool)
     for part in (refusals, trees_shown, nothing_raw, long_fields, real_in_captures):
         part(tool, rng)
