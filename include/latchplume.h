@@ -65,14 +65,24 @@ enum latchplume_code {
     LATCHPLUME_NOT_ASKED = 11       /* field reading: kind or format not the one asked */
 };
 
-/* The words of a descriptor, by their place. Descriptors stand in the order of their first byte, parents first. */
+/*
+ * The words of a descriptor, by their place. Descriptors stand in the order of their first byte, parents first.
+ *
+ *   kind      one of enum latchplume_kind
+ *   format    the format word; 0 for a datagram and a PDU
+ *   start     the first byte: of a datagram its own, of a sample or record its payload's, of a PDU the one behind its record count
+ *   length    of a datagram all of it; of a sample or record the payload without pad; of a PDU its records with their pads
+ *   parent    the parent's index in the store; LATCHPLUME_NOBODY for a datagram
+ *   depth     0 for datagrams and samples, 1 for a sample's own records, d + 1 for records in a PDU of a record at depth d; a PDU has
+ *             its record's. At most 8
+ */
 enum latchplume_descriptor_word {
-    LATCHPLUME_KIND = 0,   /* one of enum latchplume_kind */
-    LATCHPLUME_FORMAT = 1, /* the format word; 0 for a datagram and a PDU */
-    LATCHPLUME_START = 2,  /* the first byte: of a datagram its own, of a sample or record its payload's, of a PDU the one behind its count */
-    LATCHPLUME_LENGTH = 3, /* of a datagram all of it, of a sample or record the payload without pad, of a PDU up to its last record's pad */
-    LATCHPLUME_PARENT = 4, /* the parent's index in the store; LATCHPLUME_NOBODY for a datagram */
-    LATCHPLUME_AT_DEPTH = 5 /* 0 for datagrams and samples, 1 for a sample's own records, d + 1 for records in a PDU of a record at d, at most 8 */
+    LATCHPLUME_KIND = 0,
+    LATCHPLUME_FORMAT = 1,
+    LATCHPLUME_START = 2,
+    LATCHPLUME_LENGTH = 3,
+    LATCHPLUME_PARENT = 4,
+    LATCHPLUME_AT_DEPTH = 5
 };
 
 enum latchplume_kind {
@@ -259,7 +269,8 @@ typedef struct latchplume_flow_sample_expanded {
     uint32_t num_records;
 } latchplume_flow_sample_expanded;
 
-latchplume_flow_sample_expanded latchplume_read_flow_sample_expanded(const uint8_t *data, size_t length, const uint32_t descriptor[6]);
+latchplume_flow_sample_expanded latchplume_read_flow_sample_expanded(
+    const uint8_t *data, size_t length, const uint32_t descriptor[6]);
 
 /* Format 4: as 2, with two words for the source. */
 typedef struct latchplume_counters_sample_expanded {
@@ -269,7 +280,8 @@ typedef struct latchplume_counters_sample_expanded {
     uint32_t num_records;
 } latchplume_counters_sample_expanded;
 
-latchplume_counters_sample_expanded latchplume_read_counters_sample_expanded(const uint8_t *data, size_t length, const uint32_t descriptor[6]);
+latchplume_counters_sample_expanded latchplume_read_counters_sample_expanded(
+    const uint8_t *data, size_t length, const uint32_t descriptor[6]);
 
 /* Format 5: a packet that was discarded, and why. */
 typedef struct latchplume_discarded_packet {
@@ -422,7 +434,8 @@ typedef struct latchplume_extended_mpls_tunnel {
     uint32_t tunnel_cos;
 } latchplume_extended_mpls_tunnel;
 
-latchplume_extended_mpls_tunnel latchplume_read_extended_mpls_tunnel(const uint8_t *data, size_t length, const uint32_t descriptor[6]);
+latchplume_extended_mpls_tunnel latchplume_read_extended_mpls_tunnel(
+    const uint8_t *data, size_t length, const uint32_t descriptor[6]);
 
 /* Format 1009: the MPLS virtual circuit. */
 typedef struct latchplume_extended_mpls_vc {
@@ -450,7 +463,8 @@ typedef struct latchplume_extended_mpls_lvp_fec {
     uint32_t mpls_fec_addr_prefix_length;
 } latchplume_extended_mpls_lvp_fec;
 
-latchplume_extended_mpls_lvp_fec latchplume_read_extended_mpls_lvp_fec(const uint8_t *data, size_t length, const uint32_t descriptor[6]);
+latchplume_extended_mpls_lvp_fec latchplume_read_extended_mpls_lvp_fec(
+    const uint8_t *data, size_t length, const uint32_t descriptor[6]);
 
 /* Format 1012: the VLAN tags that were taken off, each with its TPID above its TCI. */
 typedef struct latchplume_extended_vlan_tunnel {
@@ -458,7 +472,8 @@ typedef struct latchplume_extended_vlan_tunnel {
     latchplume_span stack; /* a list */
 } latchplume_extended_vlan_tunnel;
 
-latchplume_extended_vlan_tunnel latchplume_read_extended_vlan_tunnel(const uint8_t *data, size_t length, const uint32_t descriptor[6]);
+latchplume_extended_vlan_tunnel latchplume_read_extended_vlan_tunnel(
+    const uint8_t *data, size_t length, const uint32_t descriptor[6]);
 
 /* Format 1013: an 802.11 payload before it was encrypted. */
 typedef struct latchplume_extended_80211_payload {
@@ -467,7 +482,8 @@ typedef struct latchplume_extended_80211_payload {
     latchplume_span data; /* bytes */
 } latchplume_extended_80211_payload;
 
-latchplume_extended_80211_payload latchplume_read_extended_80211_payload(const uint8_t *data, size_t length, const uint32_t descriptor[6]);
+latchplume_extended_80211_payload latchplume_read_extended_80211_payload(
+    const uint8_t *data, size_t length, const uint32_t descriptor[6]);
 
 /* Format 1014: how an 802.11 packet was received. */
 typedef struct latchplume_extended_80211_rx {
@@ -506,7 +522,8 @@ typedef struct latchplume_extended_80211_aggregation {
     uint32_t pdu_count;
 } latchplume_extended_80211_aggregation;
 
-latchplume_extended_80211_aggregation latchplume_read_extended_80211_aggregation(const uint8_t *data, size_t length, const uint32_t descriptor[6]);
+latchplume_extended_80211_aggregation latchplume_read_extended_80211_aggregation(
+    const uint8_t *data, size_t length, const uint32_t descriptor[6]);
 
 /* Where a descriptor's payload lies. It refuses nothing: where code 1 or 10 would apply, start and count are 0. */
 latchplume_span latchplume_payload(const uint8_t *data, size_t length, const uint32_t descriptor[6]);

@@ -56,8 +56,8 @@ static void print_listing(struct work *w, const latchplume_answer *a)
     }
     for (size_t i = 0; i < a->needed; i++) {
         const uint32_t *d = w->store + LATCHPLUME_DESCRIPTOR_WORDS * i;
-        printf("kind=%" PRIu32 " format=%" PRIu32 " start=%" PRIu32 " length=%" PRIu32 " parent=%" PRIu32 " depth=%" PRIu32 "\n",
-               d[LATCHPLUME_KIND], d[LATCHPLUME_FORMAT], d[LATCHPLUME_START], d[LATCHPLUME_LENGTH], d[LATCHPLUME_PARENT], d[LATCHPLUME_AT_DEPTH]);
+        printf("kind=%" PRIu32 " format=%" PRIu32 " start=%" PRIu32, d[LATCHPLUME_KIND], d[LATCHPLUME_FORMAT], d[LATCHPLUME_START]);
+        printf(" length=%" PRIu32 " parent=%" PRIu32 " depth=%" PRIu32 "\n", d[LATCHPLUME_LENGTH], d[LATCHPLUME_PARENT], d[LATCHPLUME_AT_DEPTH]);
     }
 }
 
@@ -140,7 +140,8 @@ static void work_on_capture(struct work *w, const struct input *in)
         worse(w, TROUBLE);
         return;
     }
-    printf("%lu packets: %lu datagrams, %lu cut, %lu fragments, %lu others\n", count.all, count.datagrams, count.cut, count.fragments, count.others);
+    printf("%lu packets: %lu datagrams, ", count.all, count.datagrams);
+    printf("%lu cut, %lu fragments, %lu others\n", count.cut, count.fragments, count.others);
     if (count.fragments)
         worse(w, REFUSED);
     if (count.all == count.others) {

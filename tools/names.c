@@ -260,19 +260,21 @@ void say_80211_version(uint32_t value)
 /* An OUI, and the number that it gives the suite. */
 void say_cipher_suite(uint32_t value)
 {
-    printf(" (%02x-%02x-%02x:%u)", (unsigned)(value >> 24), (unsigned)(value >> 16 & 255), (unsigned)(value >> 8 & 255), (unsigned)(value & 255));
+    unsigned v = value;
+    printf(" (%02x-%02x-%02x:%u)", v >> 24, v >> 16 & 255, v >> 8 & 255, v & 255);
 }
 
 /* RFC 3032: 20 bits of label, 3 of traffic class, the bottom of the stack, 8 of time to live. */
 void say_label(uint32_t value)
 {
-    const char *bottom = value >> 8 & 1 ? ", bottom" : "";
-    printf(" (label %u, class %u%s, ttl %u)", (unsigned)(value >> 12), (unsigned)(value >> 9 & 7), bottom, (unsigned)(value & 255));
+    unsigned v = value;
+    printf(" (label %u, class %u%s, ttl %u)", v >> 12, v >> 9 & 7, v >> 8 & 1 ? ", bottom" : "", v & 255);
 }
 
 void say_tag(uint32_t value)
 {
-    printf(" (TPID 0x%04x, priority %u, VLAN %u)", (unsigned)(value >> 16), (unsigned)(value >> 13 & 7), (unsigned)(value & 0xfff));
+    unsigned v = value;
+    printf(" (TPID 0x%04x, priority %u, VLAN %u)", v >> 16, v >> 13 & 7, v & 0xfff);
 }
 
 void say_community(uint32_t value)

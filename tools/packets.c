@@ -168,7 +168,8 @@ static bool each(const char *name, pcap_t *from, unsigned port, packets_take *ta
     return got == PCAP_ERROR_BREAK;
 }
 
-bool packets_each(const char *name, const uint8_t *data, size_t length, unsigned port, packets_take *take, void *who, struct packets *count)
+bool packets_each(const char *name, const uint8_t *data, size_t length, unsigned port,
+                  packets_take *take, void *who, struct packets *count)
 {
     char said[PCAP_ERRBUF_SIZE] = "cannot be read from memory";
     FILE *file = fmemopen((void *)(uintptr_t)data, length, "rb");

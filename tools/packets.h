@@ -29,6 +29,7 @@ typedef void packets_take(void *who, const struct packet *one);
  * Goes through a capture and hands on each packet for the port. Later pieces of a packet name no port: they are counted as fragments
  * and not handed on. Where the file itself is at fault, it says so in one line and answers false.
  */
-bool packets_each(const char *name, const uint8_t *data, size_t length, unsigned port, packets_take *take, void *who, struct packets *count);
+bool packets_each(const char *name, const uint8_t *data, size_t length, unsigned port,
+                  packets_take *take, void *who, struct packets *count);
 
 #endif

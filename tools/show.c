@@ -29,7 +29,8 @@ static void title(const uint32_t *one, unsigned long number, const struct layout
     printf("%s %lu: ", kinds[kind], number);
     if (kind != LATCHPLUME_DATAGRAM && kind != LATCHPLUME_PDU) {
         const char *name = layout ? layout->name : name_of_format(kind, format.word);
-        printf("%s, format %" PRIu32 ":%" PRIu32 ", ", name ? name : "unknown", latchplume_enterprise(format), latchplume_format_number(format));
+        printf("%s, ", name ? name : "unknown");
+        printf("format %" PRIu32 ":%" PRIu32 ", ", latchplume_enterprise(format), latchplume_format_number(format));
     }
     const char *raw = layout || kind == LATCHPLUME_PDU ? "" : ", kept raw";
     printf("%" PRIu32 " bytes at %" PRIu32 "%s\n", one[LATCHPLUME_LENGTH], one[LATCHPLUME_START], raw);
@@ -82,7 +83,8 @@ void show_refusal(const struct shown *s, unsigned long number, size_t from, cons
     printf("position: %zu, after %zu items that were read\n", from + answer->at, answer->steps);
     if (answer->code == LATCHPLUME_INPUT_LENGTH)
         return;
-    uint32_t all[LATCHPLUME_DESCRIPTOR_WORDS] = {LATCHPLUME_DATAGRAM, 0, (uint32_t)from, (uint32_t)(s->length - from), LATCHPLUME_NOBODY, 0};
+    uint32_t start = (uint32_t)from, length = (uint32_t)(s->length - from);
+    uint32_t all[LATCHPLUME_DESCRIPTOR_WORDS] = {LATCHPLUME_DATAGRAM, 0, start, length, LATCHPLUME_NOBODY, 0};
     if (latchplume_read_header(s->data, s->length, all).outcome.code == LATCHPLUME_ACCEPTED)
         fields(s, all, layout_of(LATCHPLUME_DATAGRAM, 0));
     text_around(1, s->data, s->length, from + answer->at);

@@ -54,7 +54,7 @@ def exported(archive):
 def declared():
     """The names of the functions that the header declares and does not define."""
     with open(at("include", "latchplume.h")) as f:
-        return sorted(re.findall(r"^latchplume_\w+ (latchplume_\w+)\([^;]*;$", f.read(), re.M))
+        return sorted(re.findall(r"^latchplume_\w+ (latchplume_\w+)\([^;{]*;$", f.read(), re.M))
 
 
 def tool_sources(without):
