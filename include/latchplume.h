@@ -3,7 +3,8 @@
  *
  * You lend it the bytes and a store of 32-bit words. It answers every input: either it is accepted, and the store then holds a
  * descriptor for each datagram, sample, record and PDU; or it is refused, and the answer says which rule was broken and where.
- * The fields of what a descriptor stands for are read by a call of their own, one for each format.
+ * The fields of what a descriptor stands for are read by a call of their own, one for each format. Link the archive whose path
+ * `tests/library host` prints.
  *
  *     uint8_t data[65536];                                     // what came over UDP, n bytes of it
  *     uint32_t store[LATCHPLUME_STORE_WORDS(sizeof data)];     // room for any datagram of that size
@@ -100,7 +101,7 @@ enum latchplume_kind {
 typedef struct latchplume_answer {
     uint32_t code;
     size_t at;
-    size_t steps;
+    size_t steps;  /* before a refusal; on 0 and 9 those of the whole reading */
     size_t needed; /* descriptors: those written on 0, those that there was no room for on 9, else 0 */
 } latchplume_answer;
 

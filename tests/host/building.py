@@ -10,7 +10,7 @@ import sys
 
 ROOT = os.path.dirname(os.path.dirname(os.path.dirname(os.path.abspath(__file__))))
 INTO = os.path.join(ROOT, "target", "host")
-LIBRARY = None  # set by the script that runs all this
+LIBRARY = None  # the path of the library, once `prepare` has been called
 WARNINGS = ["-Wall", "-Wextra", "-Werror"]
 PLAIN = ["-O2"]
 CHECKED = ["-O1", "-g", "-fsanitize=address,undefined", "-fno-sanitize-recover=all", "-fno-omit-frame-pointer"]
@@ -32,17 +32,18 @@ def made(name):
 
 
 def run(words):
-    ran = subprocess.run(words, stdout=subprocess.PIPE, stderr=subprocess.STDOUT, text=True)
+    ran = subprocess.run(words, stdout=subprocess.PIPE, stderr=subprocess.STDOUT, text=True, cwd=ROOT)
     if ran.returncode != 0:
         raise Failed(" ".join(words) + "\n" + ran.stdout.strip())
+    return ran.stdout
 
 
-def find_library():
-    """The library for this machine."""
-    ran = subprocess.run([at("tests", "library"), "host"], stdout=subprocess.PIPE, text=True)
-    if ran.returncode != 0:
-        raise Failed("tests/library host")
-    return ran.stdout.strip()
+def prepare():
+    """The library for this machine, the proved listing programs, and libpcap, which ./latchplume installs where it may."""
+    global LIBRARY
+    LIBRARY = run([at("tests", "library"), "host"]).strip()
+    run(["rt", "check", "listing", "listing_run"])
+    run([at("latchplume"), "--help"])
 
 
 def exported(archive):

@@ -28,6 +28,16 @@ class Collector:
         self.socket.connect(("127.0.0.1", self.port))
         self.sent = 0
 
+    def __enter__(self):
+        return self
+
+    def __exit__(self, *_):
+        self.socket.close()
+        if self.process.poll() is None:
+            self.process.kill()
+        self.process.stdout.close()
+        self.process.wait()
+
     def waiting(self):
         """The bytes that it has not read yet."""
         with open("/proc/net/udp") as f:
@@ -42,7 +52,7 @@ class Collector:
     def send(self, data):
         self.socket.send(data)
         self.sent += 1
-        if self.sent % BURST == 0 or len(data) > 1000:
+        if self.sent % BURST == 0 or len(data) > 256:
             self.drain()
 
     def counts(self, number):
@@ -106,9 +116,9 @@ def inputs(tool, rng):
             yield bytes(library_checks.spoiled(wire, base, offset, raw)), code
 
 
-def counted(checks, tool, program, rng):
+def counted(checks, tool, collector, rng):
     """What it counts is what was sent to it."""
-    collector, expected = Collector(program), Expected()
+    expected = Expected()
     for data, code in inputs(tool, rng):
         collector.send(data)
         expected.add(agent_of(data), code)
@@ -123,9 +133,8 @@ def counted(checks, tool, program, rng):
     checks.same("collector: counts on SIGTERM, with more agents than it has places", (expected.counts(), 0), collector.end())
 
 
-def still(checks, rng, most):
-    """A million datagrams move its memory by nothing."""
-    collector = Collector(building.made("collector"))
+def still(checks, collector, rng, most):
+    """So many datagrams move its memory by nothing."""
     packed = encoder.Wire(rng)
     packed.datagram([packed.put_sample("flow_sample", [packed.put_aggregation([[]] * 16000)])], agent_address=bytes((10, 0, 0, 1)))
     good, bad = bytes(encoder.any_datagram(random.Random(3))[0].data)[:1000], encoder.word(4)
@@ -151,5 +160,7 @@ def still(checks, rng, most):
 def check_all(checks, room):
     tool = tool_checks.Tool(checks, room, building.made("latchplume"))
     for program in ("collector", "collector-checked"):
-        counted(checks, tool, building.made(program), random.Random(11))
-    still(checks, random.Random(12), 1000000)
+        with Collector(building.made(program)) as collector:
+            counted(checks, tool, collector, random.Random(11))
+    with Collector(building.made("collector")) as collector:
+        still(checks, collector, random.Random(12), 1000000)
