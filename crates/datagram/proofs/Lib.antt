@@ -2,3 +2,4 @@ pub mod Version
 pub mod Deciding
 pub mod Judging
 pub mod Running
+pub mod Unique
