@@ -11,7 +11,7 @@ ROOT = os.path.dirname(os.path.dirname(COST))
 TARGET = os.path.join(ROOT, "target")
 X86_ARCHIVE = os.path.join(TARGET, "staticlib", "libhost.a")
 MACHINE = platform.machine()
-FLAGS = ["-O2", "-Wall", "-Wextra", "-Werror", "-I", os.path.join(ROOT, "crates", "host")]
+FLAGS = ["-O2", "-Wall", "-Wextra", "-Werror", "-I", os.path.join(ROOT, "include")]
 
 
 def fail(said):
