@@ -95,18 +95,20 @@ impl Header {
         let agent_address = agent.address;
         let row = next::words(passed, s, 4);
         let passed = row.passed;
-        let words = row.words;
         match passed {
             Passed::Stop(r) => Header::none(r),
-            Passed::Got(d) => Header {
-                outcome: d.accepted(),
-                version: first.value,
-                agent_address: agent_address,
-                sub_agent_id: words[0],
-                sequence_number: words[1],
-                uptime: words[2],
-                num_samples: words[3],
-            },
+            Passed::Got(d) => {
+                let words = next::load8(s, row.at, 4);
+                Header {
+                    outcome: d.accepted(),
+                    version: first.value,
+                    agent_address: agent_address,
+                    sub_agent_id: words[0],
+                    sequence_number: words[1],
+                    uptime: words[2],
+                    num_samples: words[3],
+                }
+            }
         }
     }
 }

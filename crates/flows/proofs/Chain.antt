@@ -5,7 +5,8 @@ use mathlib.Core.List.{List, [], _∷_, _++_, append-nil}
 use Prim.Native.Nat.{ℕ, zero, suc, _+_, _*_, _≤_, _<_}
 use native.Mathlib.Omega.{arith}
 use borrow.Author.Needs.{needs}
-use borrow.Author.Tests.{le-leb, lt-leb}
+use borrow.Author.Tests.{leb-true, le-leb, lt-leb}
+use lib.Dec.{leb}
 use lib.ListN.{length, take, drop, getD, take-append-drop}
 use lib.Seq.{take-take}
 use Rattle.reading.specs.Bytes.{be4}
@@ -34,7 +35,7 @@ use Rattle.xdr.proofs.Rows.{reads-inside, words-inside}
 use Rattle.flows.specs.declared.lists.Ranged.{Ranged}
 use Rattle.flows.specs.declared.next.Kind.{Kind}
 use Rattle.flows.specs.declared.next.Kind.the-variants as kind
-use Rattle.flows.specs.Chain.{Within, inside, over, Then, goes, halts, stays, loaded-from, loaded, word-of, field-of, no-range, range-of}
+use Rattle.flows.specs.Chain.{Within, inside, over, Then, goes, halts, stays, Sure, There, Has-words, loaded-from, loaded, word-of, field-of, no-range, range-of}
 
 -- the fields l, read on from p, end so, whatever they give
 pub data Ends (l : List Field) (s : List ℕ) (p q : Passed) : Type 0 where
@@ -76,6 +77,18 @@ module _ {s : List ℕ} where
 
   pub then-is : {l : List Field} {p q : Passed} {vs us : List Value} → Then l s p q vs → us ≡ vs → Then l s p q us
   then-is t e = rw e t
+
+  -- fields that are read on from, by how they ended
+  module _ {l : List Field} {p q : Passed} where
+    pub then-got : {d : Cursor} {vs : List Value} → q ≡ passed.Got d → Then l s p q vs → Then l s p (passed.Got d) vs
+    then-got e t = rw e at t
+
+    pub then-stop : {x : Outcome} {vs : List Value} → q ≡ passed.Stop x → Ends l s p q → Then l s p (passed.Stop x) vs
+    then-stop {x} {vs} e (ends {vs = us} t) = go (rw e at t)
+      where
+        go : {p : Passed} → Then l s p (passed.Stop x) us → Then l s p (passed.Stop x) vs
+        go (halts a) = halts a
+        go stays = stays
 
   -- the whole layout, read on from p
   module _ {l : List Field} {p q : Passed} where
@@ -139,16 +152,43 @@ module _ (s : List ℕ) {p : Passed} (c : Cursor) (h : p ≡ passed.Got c) {w : 
   pub no-long : {x : Outcome} {vs : List Value} → w ≡ a-long.Stop x → Then (plain long ∷ []) s p (passed.Stop x) vs
   no-long e = rw h (item-halts long s c (rw e at f))
 
--- n words, and those that are loaded of them
+-- a refusal is not where all was read
+unsure : {A : Type 0} {x : Outcome} {c : Cursor} → passed.Stop x ≡ passed.Got c → A
+unsure e = let z : _≡_ {A = ℕ} 0 1 = cc in absurd (omega arith)
+
+-- n words, by where they begin
 module _ (n : ℕ) (s : List ℕ) {p : Passed} (c : Cursor) (h : p ≡ passed.Got c) (i : Inside s c) {q : Passed} (f : passed-out q nothing ≡ times n (follow any-word) s (place c)) where
-  pub run-there : {d : Cursor} → q ≡ passed.Got d → c .at + 4 * n ≤ length s
-  run-there e = run-row s n (place c) (i .inside) (rw e at f) .0
+  pub then-row : Then (words n) s p q (numbers n s (c .at))
+  then-row = rw h (go q f)
+    where
+      go : (q : Passed) → passed-out q nothing ≡ times n (follow any-word) s (place c) → Then (words n) s (passed.Got c) q (numbers n s (c .at))
+      go (passed.Got d) f = goes (run-row s n (place c) (i .inside) f .1) (words-inside n s c f i refl)
+      go (passed.Stop x) f = halts (run-cut s n (place c) (i .inside) f)
 
-  pub then-words : {d : Cursor} {vs : List Value} → q ≡ passed.Got d → vs ≡ numbers n s (c .at) → Then (words n) s p (passed.Got d) vs
-  then-words e z = rw (h, z) (goes (run-row s n (place c) (i .inside) (rw e at f) .1) (words-inside n s c f i e))
+  pub row-there : There n s q (c .at)
+  row-there = record { fits = go q f }
+    where
+      go : (q : Passed) → passed-out q nothing ≡ times n (follow any-word) s (place c) → Sure q → c .at + 4 * n ≤ length s
+      go (passed.Got d) f w = run-row s n (place c) (i .inside) f .0
+      go (passed.Stop x) f w = unsure (w .is)
 
-  pub no-words : {x : Outcome} {vs : List Value} → q ≡ passed.Stop x → Then (words n) s p (passed.Stop x) vs
-  no-words e = rw h (halts (run-cut s n (place c) (i .inside) (rw e at f)))
+pub row-none : {n : ℕ} {s : List ℕ} {x : Outcome} {at : ℕ} → There n s (passed.Stop x) at
+row-none = record { fits = λ w. unsure (w .is) }
+
+-- a row that was read, where all that follows was read too
+pub sure-got : {q : Passed} {d : Cursor} → q ≡ passed.Got d → Sure q
+sure-got {d = d} e = record { cursor = d; is = e }
+
+pub sure-back : {l : List Field} {s : List ℕ} {q r : Passed} {vs : List Value} → Then l s q r vs → Sure r → Sure q
+sure-back (goes {d} a i) w = record { cursor = d; is = refl }
+sure-back (halts a) w = unsure (w .is)
+sure-back stays w = w
+
+pub row-few : {q : Passed} {n : ℕ} {s : List ℕ} {at : ℕ} → There n s q at → Sure q → n ≤ 8 → Has-words n s at
+row-few t w l = record { few = l; fits = t .fits w }
+
+pub row-held : {q : Passed} {n : ℕ} {s : List ℕ} {at : ℕ} → There n s q at → Sure q → leb n 8 ≡ true → Has-words n s at
+row-held {n = n} t w e = row-few t w (leb-true n 8 e)
 
 same-numbers : {v w : ℕ} {vs ws : List Value} → v ≡ w → vs ≡ ws → number v ∷ vs ≡ number w ∷ ws
 same-numbers e f = cc
@@ -268,7 +308,12 @@ module _ (s : List ℕ) (c : Cursor) where
 -- for the readers: where the next item begins, and what all the items make
 pub ruleset steps = (within-start, within-then, needs)
 
+-- for the words of a row
+pub ruleset places = (row-held, row-few, sure-got, sure-back, needs)
+
+pub ruleset parts = (then-got, then-stop, then-on, then-is, ends, ends-on)
+
 pub ruleset rows = (all-read, all-refused, then-on, then-is, ends, ends-on)
 
 -- for the items themselves
-pub ruleset items = (within-got, handed-on, from-there, then-reads, then-word, no-word, then-long, no-long, then-sixteen, then-six, range-got, range-stop, is-opaque, is-text, range-part, range-arm, run-there, then-words, no-words, load-each, load-word, load-zero, needs)
+pub ruleset items = (within-got, handed-on, from-there, then-reads, then-word, no-word, then-long, no-long, then-sixteen, then-six, range-got, range-stop, is-opaque, is-text, range-part, range-arm, then-row, row-there, row-none, load-each, load-word, load-zero, needs)

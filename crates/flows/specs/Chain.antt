@@ -1,10 +1,10 @@
 -- Items read one after another, each from the outcome of those before it, which is handed on where it is a refusal. Assumes nothing.
-use Prim.Native.Nat.{ℕ, zero, suc, _+_, _*_}
+use Prim.Native.Nat.{ℕ, zero, suc, _+_, _*_, _≤_}
 use mathlib.Core.Path.{_≡_}
 use mathlib.Core.Bool.{cond}
 use mathlib.Core.List.{List, [], _∷_}
 use lib.Dec.{leb}
-use lib.ListN.{getD}
+use lib.ListN.{length, getD}
 use Rattle.reading.specs.Bytes.{be4}
 use Rattle.reading.specs.Script.{Value, number, opaque}
 use Rattle.reading.specs.Cursor.{got}
@@ -31,6 +31,20 @@ pub data Then (l : List Field) (s : List ℕ) : Passed → Passed → List Value
   goes : {d e : Cursor} {vs : List Value} → fields-out l s (place d) ≡ got vs (place e) → Inside s e → Then l s (passed.Got d) (passed.Got e) vs
   halts : {d : Cursor} {x : Outcome} {vs : List Value} → fields-out l s (place d) ≡ refusal x → Then l s (passed.Got d) (passed.Stop x) vs
   stays : {x : Outcome} {vs : List Value} → Then l s (passed.Stop x) (passed.Stop x) vs
+
+-- all was read up to here
+pub record Sure (q : Passed) : Type 0 where
+  pub cursor : Cursor
+  pub is : q ≡ passed.Got cursor
+
+-- n words at a place lie in the input, where they were read
+pub record There (n : ℕ) (s : List ℕ) (q : Passed) (at : ℕ) : Type 0 where
+  pub fits : Sure q → at + 4 * n ≤ length s
+
+-- a row of n words, at most eight, lies at a place
+pub record Has-words (n : ℕ) (s : List ℕ) (at : ℕ) : Type 0 where
+  pub few : n ≤ 8
+  pub fits : at + 4 * n ≤ length s
 
 -- the word with this index of the n words at a place, and 0 behind them
 abbrev pub word-of : (n : ℕ) → List ℕ → (at index : ℕ) → ℕ

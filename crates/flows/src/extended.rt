@@ -31,7 +31,6 @@ impl ExtendedSwitch {
     {
         let row = next::words(p, s, 4);
         let passed = row.passed;
-        let words = row.words;
         match passed {
             Passed::Stop(r) => ExtendedSwitch {
                 outcome: r,
@@ -40,13 +39,16 @@ impl ExtendedSwitch {
                 dst_vlan: 0,
                 dst_priority: 0,
             },
-            Passed::Got(d) => ExtendedSwitch {
-                outcome: d.accepted(),
-                src_vlan: words[0],
-                src_priority: words[1],
-                dst_vlan: words[2],
-                dst_priority: words[3],
-            },
+            Passed::Got(d) => {
+                let words = next::load8(s, row.at, 4);
+                ExtendedSwitch {
+                    outcome: d.accepted(),
+                    src_vlan: words[0],
+                    src_priority: words[1],
+                    dst_vlan: words[2],
+                    dst_priority: words[3],
+                }
+            }
         }
     }
 }
@@ -70,7 +72,6 @@ impl ExtendedRouter {
         let next_hop = hop.address;
         let row = next::words(passed, s, 2);
         let passed = row.passed;
-        let masks = row.words;
         match passed {
             Passed::Stop(r) => ExtendedRouter {
                 outcome: r,
@@ -81,12 +82,15 @@ impl ExtendedRouter {
                 src_mask_len: 0,
                 dst_mask_len: 0,
             },
-            Passed::Got(d) => ExtendedRouter {
-                outcome: d.accepted(),
-                next_hop: next_hop,
-                src_mask_len: masks[0],
-                dst_mask_len: masks[1],
-            },
+            Passed::Got(d) => {
+                let masks = next::load8(s, row.at, 2);
+                ExtendedRouter {
+                    outcome: d.accepted(),
+                    next_hop: next_hop,
+                    src_mask_len: masks[0],
+                    dst_mask_len: masks[1],
+                }
+            }
         }
     }
 }
@@ -162,7 +166,6 @@ impl ExtendedGateway {
         let next_hop = hop.address;
         let row = next::words(passed, s, 3);
         let passed = row.passed;
-        let numbers = row.words;
         let route = Route::parse(passed, s);
         let passed = route.passed;
         let dst_as_path = route.dst_as_path;
@@ -170,16 +173,19 @@ impl ExtendedGateway {
         let local_pref = route.local_pref;
         match passed {
             Passed::Stop(r) => ExtendedGateway::none(r),
-            Passed::Got(d) => ExtendedGateway {
-                outcome: d.accepted(),
-                next_hop: next_hop,
-                as_number: numbers[0],
-                src_as: numbers[1],
-                src_peer_as: numbers[2],
-                dst_as_path: dst_as_path,
-                communities: communities,
-                local_pref: local_pref,
-            },
+            Passed::Got(d) => {
+                let numbers = next::load8(s, row.at, 3);
+                ExtendedGateway {
+                    outcome: d.accepted(),
+                    next_hop: next_hop,
+                    as_number: numbers[0],
+                    src_as: numbers[1],
+                    src_peer_as: numbers[2],
+                    dst_as_path: dst_as_path,
+                    communities: communities,
+                    local_pref: local_pref,
+                }
+            }
         }
     }
 }

@@ -82,7 +82,6 @@ impl ExtendedMplsTunnel {
         let tunnel_lsp_name = name.span;
         let row = next::words(passed, s, 2);
         let passed = row.passed;
-        let words = row.words;
         match passed {
             Passed::Stop(r) => ExtendedMplsTunnel {
                 outcome: r,
@@ -90,12 +89,15 @@ impl ExtendedMplsTunnel {
                 tunnel_id: 0,
                 tunnel_cos: 0,
             },
-            Passed::Got(d) => ExtendedMplsTunnel {
-                outcome: d.accepted(),
-                tunnel_lsp_name: tunnel_lsp_name,
-                tunnel_id: words[0],
-                tunnel_cos: words[1],
-            },
+            Passed::Got(d) => {
+                let words = next::load8(s, row.at, 2);
+                ExtendedMplsTunnel {
+                    outcome: d.accepted(),
+                    tunnel_lsp_name: tunnel_lsp_name,
+                    tunnel_id: words[0],
+                    tunnel_cos: words[1],
+                }
+            }
         }
     }
 }
@@ -120,7 +122,6 @@ impl ExtendedMplsVc {
         let vc_instance_name = name.span;
         let row = next::words(passed, s, 3);
         let passed = row.passed;
-        let words = row.words;
         match passed {
             Passed::Stop(r) => ExtendedMplsVc {
                 outcome: r,
@@ -129,13 +130,16 @@ impl ExtendedMplsVc {
                 vc_label: 0,
                 vc_cos: 0,
             },
-            Passed::Got(d) => ExtendedMplsVc {
-                outcome: d.accepted(),
-                vc_instance_name: vc_instance_name,
-                vll_vc_id: words[0],
-                vc_label: words[1],
-                vc_cos: words[2],
-            },
+            Passed::Got(d) => {
+                let words = next::load8(s, row.at, 3);
+                ExtendedMplsVc {
+                    outcome: d.accepted(),
+                    vc_instance_name: vc_instance_name,
+                    vll_vc_id: words[0],
+                    vc_label: words[1],
+                    vc_cos: words[2],
+                }
+            }
         }
     }
 }

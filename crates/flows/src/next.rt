@@ -8,7 +8,7 @@ ghost use Rattle.reading.specs.Script.{number, octets, part, long, six, eight, 
 ghost use Rattle.reading.specs.Layout.{plain, mac, addr, words, bytes};
 ghost use Rattle.reading.proofs.Words.{numbers};
 ghost use Rattle.xdr.specs.Shown.{Inside, Reads, span, width, an-address};
-ghost use Rattle.flows.specs.Chain.{Within, Then, loaded, word-of, field-of, range-of};
+ghost use Rattle.flows.specs.Chain.{Within, Then, There, Has-words, loaded, word-of, field-of, range-of};
 use crate::lists;
 use crate::lists::Ranged;
 use xdr::Address;
@@ -33,10 +33,10 @@ pub struct Wide {
     pub value: u64,
 }
 
-// A row of words.
+// A row of words, by where it begins.
 pub struct Run {
     pub passed: Passed,
-    pub words: [u32; 8],
+    pub at: usize,
 }
 
 pub struct Mac {
@@ -74,6 +74,27 @@ pub fn word(p: Passed, s: &[u8]) -> Number
     }
 }
 
+// n words, by one comparison.
+pub fn words(p: Passed, s: &[u8], n: u32) -> Run
+    requires { ⌜ Within (now s) p ⌝ }
+    ensures { λ r. ⌜ Then (words n) (now (s .entry)) p (r .passed) (numbers n (now (s .entry)) (r .at)) ⌝ }
+    ensures { λ r. ⌜ There n (now (s .entry)) (r .passed) (r .at) ⌝ }
+{
+    match p {
+        Passed::Stop(r) => Run {
+            passed: Passed::Stop(r),
+            at: 0,
+        },
+        Passed::Got(c) => {
+            let at = c.at;
+            Run {
+                passed: c.read_words(s, n),
+                at: at,
+            }
+        }
+    }
+}
+
 // The word with this index of the n words at `at`, and 0 behind them.
 fn load1(s: &[u8], at: usize, n: usize, index: usize) -> u32
     requires { ⌜ (at + 4 * n ≤ length (now s)) × (index < 8) ⌝ }
@@ -85,9 +106,9 @@ fn load1(s: &[u8], at: usize, n: usize, index: usize) -> u32
     0
 }
 
-// The n words at `at`. It is no loop, so that where n is known only n loads are left of it.
-fn load8(s: &[u8], at: usize, n: usize) -> [u32; 8]
-    requires { ⌜ (n ≤ 8) × (at + 4 * n ≤ length (now s)) ⌝ }
+// The words of a row of n that was read. It is no loop, so that where n is known only n loads are left of it.
+pub fn load8(s: &[u8], at: usize, n: usize) -> [u32; 8]
+    requires { ⌜ Has-words n (now s) at ⌝ }
     ensures { λ r. ⌜ loaded n r ≡ numbers n (now (s .entry)) at ⌝ }
 {
     [
@@ -100,33 +121,6 @@ fn load8(s: &[u8], at: usize, n: usize) -> [u32; 8]
         load1(s, at, n, 6),
         load1(s, at, n, 7),
     ]
-}
-
-// n words, of which all are known to be there before the first is loaded.
-pub fn words(p: Passed, s: &[u8], n: u32) -> Run
-    requires { ⌜ Within (now s) p ⌝ }
-    requires { ⌜ n ≤ 8 ⌝ }
-    ensures { λ r. ⌜ Then (words n) (now (s .entry)) p (r .passed) (loaded n (r .words)) ⌝ }
-{
-    match p {
-        Passed::Stop(r) => Run {
-            passed: Passed::Stop(r),
-            words: [0u32; 8],
-        },
-        Passed::Got(c) => {
-            let at = c.at;
-            match c.read_words(s, n) {
-                Passed::Stop(r) => Run {
-                    passed: Passed::Stop(r),
-                    words: [0u32; 8],
-                },
-                Passed::Got(d) => Run {
-                    passed: Passed::Got(d),
-                    words: load8(s, at, n as usize),
-                },
-            }
-        }
-    }
 }
 
 pub fn address(p: Passed, s: &[u8]) -> Addressed

@@ -83,7 +83,6 @@ impl SampledHeader {
         let passed = kind.passed;
         let row = next::words(passed, s, 2);
         let passed = row.passed;
-        let sizes = row.words;
         let bytes = next::range(passed, s, Kind::Opaque);
         let passed = bytes.passed;
         let header = bytes.span;
@@ -95,13 +94,16 @@ impl SampledHeader {
                 stripped: 0,
                 header: Span { start: 0, count: 0 },
             },
-            Passed::Got(d) => SampledHeader {
-                outcome: d.accepted(),
-                protocol: kind.value,
-                frame_length: sizes[0],
-                stripped: sizes[1],
-                header: header,
-            },
+            Passed::Got(d) => {
+                let sizes = next::load8(s, row.at, 2);
+                SampledHeader {
+                    outcome: d.accepted(),
+                    protocol: kind.value,
+                    frame_length: sizes[0],
+                    stripped: sizes[1],
+                    header: header,
+                }
+            }
         }
     }
 }
@@ -171,7 +173,6 @@ impl SampledIpv4 {
     {
         let row = next::words(p, s, 8);
         let passed = row.passed;
-        let words = row.words;
         match passed {
             Passed::Stop(r) => SampledIpv4 {
                 outcome: r,
@@ -184,17 +185,20 @@ impl SampledIpv4 {
                 tcp_flags: 0,
                 tos: 0,
             },
-            Passed::Got(d) => SampledIpv4 {
-                outcome: d.accepted(),
-                length: words[0],
-                protocol: words[1],
-                src_ip: words[2],
-                dst_ip: words[3],
-                src_port: words[4],
-                dst_port: words[5],
-                tcp_flags: words[6],
-                tos: words[7],
-            },
+            Passed::Got(d) => {
+                let words = next::load8(s, row.at, 8);
+                SampledIpv4 {
+                    outcome: d.accepted(),
+                    length: words[0],
+                    protocol: words[1],
+                    src_ip: words[2],
+                    dst_ip: words[3],
+                    src_port: words[4],
+                    dst_port: words[5],
+                    tcp_flags: words[6],
+                    tos: words[7],
+                }
+            }
         }
     }
 }
@@ -236,7 +240,7 @@ impl SampledIpv6 {
     {
         let row = next::words(p, s, 2);
         let passed = row.passed;
-        let head = row.words;
+        let head_at = row.at;
         let src = next::sixteen(passed, s);
         let passed = src.passed;
         let src_ip = src.bytes;
@@ -245,20 +249,23 @@ impl SampledIpv6 {
         let dst_ip = dst.bytes;
         let row = next::words(passed, s, 4);
         let passed = row.passed;
-        let tail = row.words;
         match passed {
             Passed::Stop(r) => SampledIpv6::none(r),
-            Passed::Got(d) => SampledIpv6 {
-                outcome: d.accepted(),
-                length: head[0],
-                protocol: head[1],
-                src_ip: src_ip,
-                dst_ip: dst_ip,
-                src_port: tail[0],
-                dst_port: tail[1],
-                tcp_flags: tail[2],
-                priority: tail[3],
-            },
+            Passed::Got(d) => {
+                let head = next::load8(s, head_at, 2);
+                let tail = next::load8(s, row.at, 4);
+                SampledIpv6 {
+                    outcome: d.accepted(),
+                    length: head[0],
+                    protocol: head[1],
+                    src_ip: src_ip,
+                    dst_ip: dst_ip,
+                    src_port: tail[0],
+                    dst_port: tail[1],
+                    tcp_flags: tail[2],
+                    priority: tail[3],
+                }
+            }
         }
     }
 }

@@ -70,12 +70,19 @@ impl Network {
         let bssid = station.bytes;
         let row = next::words(passed, s, n);
         let passed = row.passed;
-        let words = row.words;
-        Network {
-            passed: passed,
-            ssid: ssid,
-            bssid: bssid,
-            words: words,
+        match passed {
+            Passed::Stop(r) => Network {
+                passed: Passed::Stop(r),
+                ssid: Span { start: 0, count: 0 },
+                bssid: [0u8; 6],
+                words: [0u32; 8],
+            },
+            Passed::Got(d) => Network {
+                passed: Passed::Got(d),
+                ssid: ssid,
+                bssid: bssid,
+                words: next::load8(s, row.at, n as usize),
+            },
         }
     }
 }
@@ -124,20 +131,22 @@ impl Extended80211Rx {
         let passed = rate.passed;
         let row = next::words(passed, s, 3);
         let passed = row.passed;
-        let tail = row.words;
         match passed {
             Passed::Stop(r) => Extended80211Rx::none(r),
-            Passed::Got(d) => Extended80211Rx {
-                outcome: d.accepted(),
-                ssid: ssid,
-                bssid: bssid,
-                version: words[0],
-                channel: words[1],
-                speed: rate.value,
-                rsni: tail[0],
-                rcpi: tail[1],
-                packet_duration: tail[2],
-            },
+            Passed::Got(d) => {
+                let tail = next::load8(s, row.at, 3);
+                Extended80211Rx {
+                    outcome: d.accepted(),
+                    ssid: ssid,
+                    bssid: bssid,
+                    version: words[0],
+                    channel: words[1],
+                    speed: rate.value,
+                    rsni: tail[0],
+                    rcpi: tail[1],
+                    packet_duration: tail[2],
+                }
+            }
         }
     }
 }

@@ -47,7 +47,6 @@ impl FlowSample {
     {
         let row = next::words(p, s, 8);
         let passed = row.passed;
-        let words = row.words;
         match passed {
             Passed::Stop(r) => FlowSample {
                 outcome: r,
@@ -60,17 +59,20 @@ impl FlowSample {
                 output: Interface(0),
                 num_records: 0,
             },
-            Passed::Got(d) => FlowSample {
-                outcome: d.accepted(),
-                sequence_number: words[0],
-                source_id: DataSource(words[1]),
-                sampling_rate: words[2],
-                sample_pool: words[3],
-                drops: words[4],
-                input: Interface(words[5]),
-                output: Interface(words[6]),
-                num_records: words[7],
-            },
+            Passed::Got(d) => {
+                let words = next::load8(s, row.at, 8);
+                FlowSample {
+                    outcome: d.accepted(),
+                    sequence_number: words[0],
+                    source_id: DataSource(words[1]),
+                    sampling_rate: words[2],
+                    sample_pool: words[3],
+                    drops: words[4],
+                    input: Interface(words[5]),
+                    output: Interface(words[6]),
+                    num_records: words[7],
+                }
+            }
         }
     }
 }
@@ -91,7 +93,6 @@ impl CountersSample {
     {
         let row = next::words(p, s, 3);
         let passed = row.passed;
-        let words = row.words;
         match passed {
             Passed::Stop(r) => CountersSample {
                 outcome: r,
@@ -99,12 +100,15 @@ impl CountersSample {
                 source_id: DataSource(0),
                 num_records: 0,
             },
-            Passed::Got(d) => CountersSample {
-                outcome: d.accepted(),
-                sequence_number: words[0],
-                source_id: DataSource(words[1]),
-                num_records: words[2],
-            },
+            Passed::Got(d) => {
+                let words = next::load8(s, row.at, 3);
+                CountersSample {
+                    outcome: d.accepted(),
+                    sequence_number: words[0],
+                    source_id: DataSource(words[1]),
+                    num_records: words[2],
+                }
+            }
         }
     }
 }
@@ -155,32 +159,35 @@ impl FlowSampleExpanded {
     {
         let row = next::words(p, s, 8);
         let passed = row.passed;
-        let first = row.words;
+        let first_at = row.at;
         let row = next::words(passed, s, 3);
         let passed = row.passed;
-        let last = row.words;
         match passed {
             Passed::Stop(r) => FlowSampleExpanded::none(r),
-            Passed::Got(d) => FlowSampleExpanded {
-                outcome: d.accepted(),
-                sequence_number: first[0],
-                source_id: DataSourceExpanded {
-                    source_id_type: first[1],
-                    source_id_index: first[2],
-                },
-                sampling_rate: first[3],
-                sample_pool: first[4],
-                drops: first[5],
-                input: InterfaceExpanded {
-                    format: first[6],
-                    value: first[7],
-                },
-                output: InterfaceExpanded {
-                    format: last[0],
-                    value: last[1],
-                },
-                num_records: last[2],
-            },
+            Passed::Got(d) => {
+                let first = next::load8(s, first_at, 8);
+                let last = next::load8(s, row.at, 3);
+                FlowSampleExpanded {
+                    outcome: d.accepted(),
+                    sequence_number: first[0],
+                    source_id: DataSourceExpanded {
+                        source_id_type: first[1],
+                        source_id_index: first[2],
+                    },
+                    sampling_rate: first[3],
+                    sample_pool: first[4],
+                    drops: first[5],
+                    input: InterfaceExpanded {
+                        format: first[6],
+                        value: first[7],
+                    },
+                    output: InterfaceExpanded {
+                        format: last[0],
+                        value: last[1],
+                    },
+                    num_records: last[2],
+                }
+            }
         }
     }
 }
@@ -201,7 +208,6 @@ impl CountersSampleExpanded {
     {
         let row = next::words(p, s, 4);
         let passed = row.passed;
-        let words = row.words;
         match passed {
             Passed::Stop(r) => CountersSampleExpanded {
                 outcome: r,
@@ -212,15 +218,18 @@ impl CountersSampleExpanded {
                 },
                 num_records: 0,
             },
-            Passed::Got(d) => CountersSampleExpanded {
-                outcome: d.accepted(),
-                sequence_number: words[0],
-                source_id: DataSourceExpanded {
-                    source_id_type: words[1],
-                    source_id_index: words[2],
-                },
-                num_records: words[3],
-            },
+            Passed::Got(d) => {
+                let words = next::load8(s, row.at, 4);
+                CountersSampleExpanded {
+                    outcome: d.accepted(),
+                    sequence_number: words[0],
+                    source_id: DataSourceExpanded {
+                        source_id_type: words[1],
+                        source_id_index: words[2],
+                    },
+                    num_records: words[3],
+                }
+            }
         }
     }
 }
@@ -245,7 +254,6 @@ impl DiscardedPacket {
     {
         let row = next::words(p, s, 8);
         let passed = row.passed;
-        let words = row.words;
         match passed {
             Passed::Stop(r) => DiscardedPacket {
                 outcome: r,
@@ -260,19 +268,22 @@ impl DiscardedPacket {
                 reason: 0,
                 num_records: 0,
             },
-            Passed::Got(d) => DiscardedPacket {
-                outcome: d.accepted(),
-                sequence_number: words[0],
-                source_id: DataSourceExpanded {
-                    source_id_type: words[1],
-                    source_id_index: words[2],
-                },
-                drops: words[3],
-                input_ifindex: words[4],
-                output_ifindex: words[5],
-                reason: words[6],
-                num_records: words[7],
-            },
+            Passed::Got(d) => {
+                let words = next::load8(s, row.at, 8);
+                DiscardedPacket {
+                    outcome: d.accepted(),
+                    sequence_number: words[0],
+                    source_id: DataSourceExpanded {
+                        source_id_type: words[1],
+                        source_id_index: words[2],
+                    },
+                    drops: words[3],
+                    input_ifindex: words[4],
+                    output_ifindex: words[5],
+                    reason: words[6],
+                    num_records: words[7],
+                }
+            }
         }
     }
 }

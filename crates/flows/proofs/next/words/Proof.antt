@@ -9,10 +9,6 @@ words-spec =
     (λ c. search items)  -- enum-known-p
     (λ c. search items)  -- enum-known-p-2
     (λ c κs. search items)  -- read-words-requires
-    (λ c. search items)  -- enum-known-r
-    (λ c. search items)  -- enum-known-d
-    (λ c κs. search items)  -- load8-requires
     (λ c. search items)  -- returns
     (λ c. search items)  -- returns-2
-    (λ c. search items)  -- returns-3
     )

@@ -1,6 +1,6 @@
 use Rattle.reading.specs.Layout.{flows}
 use Rattle.reading.specs.Answer.{layout-of}
-use Rattle.flows.proofs.Chain.{steps, rows}
+use Rattle.flows.proofs.Chain.{steps, places, rows}
 use Rattle.flows.proofs.extended.ExtendedGateway.parse.Statement.{statement}
 use Rattle.flows.proofs.extended.ExtendedGateway.parse.Tie as tie
 
@@ -15,6 +15,7 @@ parse-spec =
     (λ c. search steps)  -- enum-known-passed
     (λ c κs. search steps)  -- none-requires
     (λ c. search steps)  -- enum-known-passed-2
+    (λ c κs. search places)  -- load8-requires
     (λ c κs. search steps)  -- accepted-requires
     (λ c. search steps)  -- array-read-t21
     (λ c. search steps)  -- array-read-t24

@@ -1,6 +1,6 @@
 use Rattle.reading.specs.Layout.{flows}
 use Rattle.reading.specs.Answer.{layout-of}
-use Rattle.flows.proofs.Chain.{steps, rows}
+use Rattle.flows.proofs.Chain.{steps, places, rows}
 use Rattle.flows.proofs.sampled.SampledHeader.parse.Statement.{statement}
 use Rattle.flows.proofs.sampled.SampledHeader.parse.Tie as tie
 
@@ -14,9 +14,10 @@ parse-spec =
     (λ c κs. search steps)  -- range-requires
     (λ c. search steps)  -- enum-known-passed
     (λ c. search steps)  -- enum-known-passed-2
+    (λ c κs. search places)  -- load8-requires
     (λ c κs. search steps)  -- accepted-requires
-    (λ c. search steps)  -- array-read-t21
-    (λ c. search steps)  -- array-read-t24
+    (λ c. search steps)  -- array-read-t20
+    (λ c. search steps)  -- array-read-t23
     (λ c. search rows)  -- returns
     (λ c. search rows)  -- returns-2
     )

@@ -1,6 +1,6 @@
 use Rattle.reading.specs.Layout.{flows}
 use Rattle.reading.specs.Answer.{layout-of}
-use Rattle.flows.proofs.Chain.{steps, rows}
+use Rattle.flows.proofs.Chain.{steps, places, rows}
 use Rattle.flows.proofs.wireless.Extended80211Rx.parse.Statement.{statement}
 use Rattle.flows.proofs.wireless.Extended80211Rx.parse.Tie as tie
 
@@ -15,12 +15,13 @@ parse-spec =
     (λ c. search steps)  -- enum-known-passed
     (λ c κs. search steps)  -- none-requires
     (λ c. search steps)  -- enum-known-passed-2
+    (λ c κs. search places)  -- load8-requires
     (λ c κs. search steps)  -- accepted-requires
-    (λ c. search steps)  -- array-read-t22
-    (λ c. search steps)  -- array-read-t25
-    (λ c. search steps)  -- array-read-t28
-    (λ c. search steps)  -- array-read-t31
-    (λ c. search steps)  -- array-read-t34
+    (λ c. search steps)  -- array-read-t20
+    (λ c. search steps)  -- array-read-t23
+    (λ c. search steps)  -- array-read-t26
+    (λ c. search steps)  -- array-read-t29
+    (λ c. search steps)  -- array-read-t32
     (λ c. search rows)  -- returns
     (λ c. search rows)  -- returns-2
     )

@@ -16,11 +16,11 @@ parse-spec =
     (λ c κs. search steps)  -- none-requires
     (λ c. search steps)  -- enum-known-passed-2
     (λ c κs. search steps)  -- accepted-requires
-    (λ c. search steps)  -- array-read-t22
-    (λ c. search steps)  -- array-read-t25
-    (λ c. search steps)  -- array-read-t28
-    (λ c. search steps)  -- array-read-t31
-    (λ c. search steps)  -- array-read-t34
+    (λ c. search steps)  -- array-read-t18
+    (λ c. search steps)  -- array-read-t21
+    (λ c. search steps)  -- array-read-t24
+    (λ c. search steps)  -- array-read-t27
+    (λ c. search steps)  -- array-read-t30
     (λ c. search rows)  -- returns
     (λ c. search rows)  -- returns-2
     )
