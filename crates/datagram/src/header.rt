@@ -98,7 +98,7 @@ impl Header {
         match passed {
             Passed::Stop(r) => Header::none(r),
             Passed::Got(d) => {
-                let words = next::load8(s, row.at, 4);
+                let words = next::load_words(s, row.at, 4);
                 Header {
                     outcome: d.accepted(),
                     version: first.value,

@@ -1,5 +1,5 @@
 // The fields of what a descriptor names, each call by the reader of that layout; and what they lead to: the payload, a list's words, an AS path's segments.
-pub mod ask;
+mod ask;
 pub mod extended;
 pub mod headers;
 pub mod mpls;

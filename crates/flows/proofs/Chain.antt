@@ -184,18 +184,18 @@ sure-back (goes {d} a i) w = record { cursor = d; is = refl }
 sure-back (halts a) w = unsure (w .is)
 sure-back stays w = w
 
-pub row-few : {q : Passed} {n : ℕ} {s : List ℕ} {at : ℕ} → There n s q at → Sure q → n ≤ 8 → Has-words n s at
+pub row-few : {q : Passed} {n : ℕ} {s : List ℕ} {at : ℕ} → There n s q at → Sure q → n ≤ 11 → Has-words n s at
 row-few t w l = record { few = l; fits = t .fits w }
 
-pub row-held : {q : Passed} {n : ℕ} {s : List ℕ} {at : ℕ} → There n s q at → Sure q → leb n 8 ≡ true → Has-words n s at
-row-held {n = n} t w e = row-few t w (leb-true n 8 e)
+pub row-held : {q : Passed} {n : ℕ} {s : List ℕ} {at : ℕ} → There n s q at → Sure q → leb n 11 ≡ true → Has-words n s at
+row-held {n = n} t w e = row-few t w (leb-true n 11 e)
 
 same-numbers : {v w : ℕ} {vs ws : List Value} → v ≡ w → vs ≡ ws → number v ∷ vs ≡ number w ∷ ws
 same-numbers e f = cc
 
 -- the first i of the words at `at`
 pub record Loaded (i : ℕ) (s : List ℕ) (at : ℕ) (w : List ℕ) : Type 0 where
-  pub size : length w ≡ 8
+  pub size : length w ≡ 11
   pub each : (j : ℕ) → j < i → getD w j 0 ≡ be4 s (at + 4 * j)
 
 module _ (s : List ℕ) (at : ℕ) where
@@ -211,24 +211,28 @@ module _ (s : List ℕ) (at : ℕ) where
       let z : at + 4 * 0 ≡ at = omega arith in
       same-numbers (r .each 0 (omega arith) ∙ ap (λ (j : ℕ). be4 s j) z) (loads-from n 1 i w r (omega arith))
 
-  -- each of eight, one by one
-  pub load-each : (n : ℕ) {a b c d e f g h : ℕ} → n ≤ 8 → a ≡ word-of n s at 0 → b ≡ word-of n s at 1 → c ≡ word-of n s at 2 → d ≡ word-of n s at 3
-      → e ≡ word-of n s at 4 → f ≡ word-of n s at 5 → g ≡ word-of n s at 6 → h ≡ word-of n s at 7 → loaded n (a ∷ b ∷ c ∷ d ∷ e ∷ f ∷ g ∷ h ∷ []) ≡ numbers n s at
-  load-each n {a} {b} {c} {d} {e} {f} {g} {h} l ea eb ec ed ee ef eg eh = load-all n n _ (record { size = refl; each = each }) (omega arith)
+  -- each of eleven, one by one
+  pub load-each : (n : ℕ) {v0 v1 v2 v3 v4 v5 v6 v7 v8 v9 v10 : ℕ} → n ≤ 11
+      → v0 ≡ word-of n s at 0 → v1 ≡ word-of n s at 1 → v2 ≡ word-of n s at 2 → v3 ≡ word-of n s at 3 → v4 ≡ word-of n s at 4 → v5 ≡ word-of n s at 5 → v6 ≡ word-of n s at 6 → v7 ≡ word-of n s at 7 → v8 ≡ word-of n s at 8 → v9 ≡ word-of n s at 9 → v10 ≡ word-of n s at 10
+      → loaded n (v0 ∷ v1 ∷ v2 ∷ v3 ∷ v4 ∷ v5 ∷ v6 ∷ v7 ∷ v8 ∷ v9 ∷ v10 ∷ []) ≡ numbers n s at
+  load-each n {v0} {v1} {v2} {v3} {v4} {v5} {v6} {v7} {v8} {v9} {v10} l e0 e1 e2 e3 e4 e5 e6 e7 e8 e9 e10 = load-all n n _ (record { size = refl; each = each }) (omega arith)
     where
-      has : (j : ℕ) → j < n → word-of n s at j ≡ be4 s (at + 4 * j)
-      has j k = rw (le-leb (j + 1) n (omega (arith, k)))
+      has : (m : ℕ) → m < n → word-of n s at m ≡ be4 s (at + 4 * m)
+      has m k = rw (le-leb (m + 1) n (omega (arith, k)))
 
-      each : (j : ℕ) → j < n → getD (a ∷ b ∷ c ∷ d ∷ e ∷ f ∷ g ∷ h ∷ []) j 0 ≡ be4 s (at + 4 * j)
-      each zero k = ea ∙ has 0 k
-      each (suc zero) k = eb ∙ has 1 k
-      each (suc (suc zero)) k = ec ∙ has 2 k
-      each (suc (suc (suc zero))) k = ed ∙ has 3 k
-      each (suc (suc (suc (suc zero)))) k = ee ∙ has 4 k
-      each (suc (suc (suc (suc (suc zero))))) k = ef ∙ has 5 k
-      each (suc (suc (suc (suc (suc (suc zero)))))) k = eg ∙ has 6 k
-      each (suc (suc (suc (suc (suc (suc (suc zero))))))) k = eh ∙ has 7 k
-      each (suc (suc (suc (suc (suc (suc (suc (suc j)))))))) k = absurd (omega (arith, k, l))
+      each : (m : ℕ) → m < n → getD (v0 ∷ v1 ∷ v2 ∷ v3 ∷ v4 ∷ v5 ∷ v6 ∷ v7 ∷ v8 ∷ v9 ∷ v10 ∷ []) m 0 ≡ be4 s (at + 4 * m)
+      each zero k = e0 ∙ has 0 k
+      each (suc zero) k = e1 ∙ has 1 k
+      each (suc (suc zero)) k = e2 ∙ has 2 k
+      each (suc (suc (suc zero))) k = e3 ∙ has 3 k
+      each (suc (suc (suc (suc zero)))) k = e4 ∙ has 4 k
+      each (suc (suc (suc (suc (suc zero))))) k = e5 ∙ has 5 k
+      each (suc (suc (suc (suc (suc (suc zero)))))) k = e6 ∙ has 6 k
+      each (suc (suc (suc (suc (suc (suc (suc zero))))))) k = e7 ∙ has 7 k
+      each (suc (suc (suc (suc (suc (suc (suc (suc zero)))))))) k = e8 ∙ has 8 k
+      each (suc (suc (suc (suc (suc (suc (suc (suc (suc zero))))))))) k = e9 ∙ has 9 k
+      each (suc (suc (suc (suc (suc (suc (suc (suc (suc (suc zero)))))))))) k = e10 ∙ has 10 k
+      each (suc (suc (suc (suc (suc (suc (suc (suc (suc (suc (suc m))))))))))) k = absurd (omega (arith, k, l))
 
 -- one of them
 module _ (s : List ℕ) (at n i : ℕ) where

@@ -41,9 +41,9 @@ pub record Sure (q : Passed) : Type 0 where
 pub record There (n : ℕ) (s : List ℕ) (q : Passed) (at : ℕ) : Type 0 where
   pub fits : Sure q → at + 4 * n ≤ length s
 
--- a row of n words, at most eight, lies at a place
+-- a row of n words, at most eleven, lies at a place
 pub record Has-words (n : ℕ) (s : List ℕ) (at : ℕ) : Type 0 where
-  pub few : n ≤ 8
+  pub few : n ≤ 11
   pub fits : at + 4 * n ≤ length s
 
 -- the word with this index of the n words at a place, and 0 behind them

@@ -4,11 +4,13 @@ ghost use mathlib.Core.List.{[], _∷_, _++_};
 ghost use Rattle.reading.specs.Layout.{addr, list, segments, str, words};
 ghost use Rattle.reading.specs.Values.{zeros};
 ghost use Rattle.reading.specs.Answer.{layout-of};
+ghost use Rattle.reading.proofs.Words.{numbers};
 ghost use Rattle.xdr.specs.Shown.{Answers};
-ghost use Rattle.flows.specs.Chain.{Within, Then};
+ghost use Rattle.flows.specs.Chain.{Within, Then, There};
 ghost use Rattle.flows.specs.Shown.{extended-switch, extended-router, route, extended-gateway, extended-user, extended-url, extended-nat, extended-vlan-tunnel};
 use crate::next;
 use crate::next::Kind;
+use crate::next::Run;
 use xdr::Address;
 use xdr::Outcome;
 use xdr::Passed;
@@ -25,11 +27,20 @@ pub struct ExtendedSwitch {
 }
 
 impl ExtendedSwitch {
+    // The whole layout is a row, so the framing needs no more than this.
+    pub fn row(p: Passed, s: &[u8]) -> Run
+        requires { ⌜ Within (now s) p ⌝ }
+        ensures { λ r. ⌜ Then (layout-of 2 1001) (now (s .entry)) p (r .passed) (numbers 4 (now (s .entry)) (r .at)) ⌝ }
+        ensures { λ r. ⌜ There 4 (now (s .entry)) (r .passed) (r .at) ⌝ }
+    {
+        next::words(p, s, 4)
+    }
+
     pub fn parse(p: Passed, s: &[u8]) -> ExtendedSwitch
         requires { ⌜ Within (now s) p ⌝ }
         ensures { λ r. ⌜ Answers (layout-of 2 1001) (now (s .entry)) p (r .outcome) (extended-switch r) ⌝ }
     {
-        let row = next::words(p, s, 4);
+        let row = ExtendedSwitch::row(p, s);
         let passed = row.passed;
         match passed {
             Passed::Stop(r) => ExtendedSwitch {
@@ -40,7 +51,7 @@ impl ExtendedSwitch {
                 dst_priority: 0,
             },
             Passed::Got(d) => {
-                let words = next::load8(s, row.at, 4);
+                let words = next::load_words(s, row.at, 4);
                 ExtendedSwitch {
                     outcome: d.accepted(),
                     src_vlan: words[0],
@@ -83,7 +94,7 @@ impl ExtendedRouter {
                 dst_mask_len: 0,
             },
             Passed::Got(d) => {
-                let masks = next::load8(s, row.at, 2);
+                let masks = next::load_words(s, row.at, 2);
                 ExtendedRouter {
                     outcome: d.accepted(),
                     next_hop: next_hop,
@@ -174,7 +185,7 @@ impl ExtendedGateway {
         match passed {
             Passed::Stop(r) => ExtendedGateway::none(r),
             Passed::Got(d) => {
-                let numbers = next::load8(s, row.at, 3);
+                let numbers = next::load_words(s, row.at, 3);
                 ExtendedGateway {
                     outcome: d.accepted(),
                     next_hop: next_hop,

@@ -4,11 +4,13 @@ ghost use mathlib.Core.List.{[], _∷_};
 ghost use Rattle.reading.specs.Layout.{addr, list};
 ghost use Rattle.reading.specs.Values.{zeros};
 ghost use Rattle.reading.specs.Answer.{layout-of};
+ghost use Rattle.reading.proofs.Words.{numbers};
 ghost use Rattle.xdr.specs.Shown.{Answers};
-ghost use Rattle.flows.specs.Chain.{Within};
+ghost use Rattle.flows.specs.Chain.{Within, Then, There};
 ghost use Rattle.flows.specs.Shown.{extended-mpls, extended-mpls-tunnel, extended-mpls-vc, extended-mpls-fec, extended-mpls-lvp-fec};
 use crate::next;
 use crate::next::Kind;
+use crate::next::Run;
 use xdr::Address;
 use xdr::Outcome;
 use xdr::Passed;
@@ -90,7 +92,7 @@ impl ExtendedMplsTunnel {
                 tunnel_cos: 0,
             },
             Passed::Got(d) => {
-                let words = next::load8(s, row.at, 2);
+                let words = next::load_words(s, row.at, 2);
                 ExtendedMplsTunnel {
                     outcome: d.accepted(),
                     tunnel_lsp_name: tunnel_lsp_name,
@@ -131,7 +133,7 @@ impl ExtendedMplsVc {
                 vc_cos: 0,
             },
             Passed::Got(d) => {
-                let words = next::load8(s, row.at, 3);
+                let words = next::load_words(s, row.at, 3);
                 ExtendedMplsVc {
                     outcome: d.accepted(),
                     vc_instance_name: vc_instance_name,
@@ -188,21 +190,33 @@ pub struct ExtendedMplsLvpFec {
 }
 
 impl ExtendedMplsLvpFec {
+    // The whole layout is a row, so the framing needs no more than this.
+    pub fn row(p: Passed, s: &[u8]) -> Run
+        requires { ⌜ Within (now s) p ⌝ }
+        ensures { λ r. ⌜ Then (layout-of 2 1011) (now (s .entry)) p (r .passed) (numbers 1 (now (s .entry)) (r .at)) ⌝ }
+        ensures { λ r. ⌜ There 1 (now (s .entry)) (r .passed) (r .at) ⌝ }
+    {
+        next::words(p, s, 1)
+    }
+
     pub fn parse(p: Passed, s: &[u8]) -> ExtendedMplsLvpFec
         requires { ⌜ Within (now s) p ⌝ }
         ensures { λ r. ⌜ Answers (layout-of 2 1011) (now (s .entry)) p (r .outcome) (extended-mpls-lvp-fec r) ⌝ }
     {
-        let size = next::word(p, s);
-        let passed = size.passed;
+        let row = ExtendedMplsLvpFec::row(p, s);
+        let passed = row.passed;
         match passed {
             Passed::Stop(r) => ExtendedMplsLvpFec {
                 outcome: r,
                 mpls_fec_addr_prefix_length: 0,
             },
-            Passed::Got(d) => ExtendedMplsLvpFec {
-                outcome: d.accepted(),
-                mpls_fec_addr_prefix_length: size.value,
-            },
+            Passed::Got(d) => {
+                let words = next::load_words(s, row.at, 1);
+                ExtendedMplsLvpFec {
+                    outcome: d.accepted(),
+                    mpls_fec_addr_prefix_length: words[0],
+                }
+            }
         }
     }
 }

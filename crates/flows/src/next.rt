@@ -97,7 +97,7 @@ pub fn words(p: Passed, s: &[u8], n: u32) -> Run
 
 // The word with this index of the n words at `at`, and 0 behind them.
 fn load1(s: &[u8], at: usize, n: usize, index: usize) -> u32
-    requires { ⌜ (at + 4 * n ≤ length (now s)) × (index < 8) ⌝ }
+    requires { ⌜ (at + 4 * n ≤ length (now s)) × (index < 11) ⌝ }
     ensures { λ r. ⌜ r ≡ word-of n (now (s .entry)) at index ⌝ }
 {
     if index < n {
@@ -107,7 +107,7 @@ fn load1(s: &[u8], at: usize, n: usize, index: usize) -> u32
 }
 
 // The words of a row of n that was read. It is no loop, so that where n is known only n loads are left of it.
-pub fn load8(s: &[u8], at: usize, n: usize) -> [u32; 8]
+pub fn load_words(s: &[u8], at: usize, n: usize) -> [u32; 11]
     requires { ⌜ Has-words n (now s) at ⌝ }
     ensures { λ r. ⌜ loaded n r ≡ numbers n (now (s .entry)) at ⌝ }
 {
@@ -120,6 +120,9 @@ pub fn load8(s: &[u8], at: usize, n: usize) -> [u32; 8]
         load1(s, at, n, 5),
         load1(s, at, n, 6),
         load1(s, at, n, 7),
+        load1(s, at, n, 8),
+        load1(s, at, n, 9),
+        load1(s, at, n, 10),
     ]
 }
 

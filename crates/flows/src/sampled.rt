@@ -5,12 +5,14 @@ ghost use Rattle.reading.specs.Script.{number, sixteen};
 ghost use Rattle.reading.specs.Layout.{bytes, protocol, words};
 ghost use Rattle.reading.specs.Values.{zeros};
 ghost use Rattle.reading.specs.Answer.{layout-of};
+ghost use Rattle.reading.proofs.Words.{numbers};
 ghost use Rattle.xdr.specs.Shown.{Inside, Answers, refused};
-ghost use Rattle.flows.specs.Chain.{Within, Then};
+ghost use Rattle.flows.specs.Chain.{Within, Then, There};
 ghost use Rattle.flows.specs.Shown.{sampled-header, sampled-ethernet, sampled-ipv4, sampled-ipv6};
 use crate::next;
 use crate::next::Kind;
 use crate::next::Number;
+use crate::next::Run;
 use xdr::Cursor;
 use xdr::Outcome;
 use xdr::Passed;
@@ -95,7 +97,7 @@ impl SampledHeader {
                 header: Span { start: 0, count: 0 },
             },
             Passed::Got(d) => {
-                let sizes = next::load8(s, row.at, 2);
+                let sizes = next::load_words(s, row.at, 2);
                 SampledHeader {
                     outcome: d.accepted(),
                     protocol: kind.value,
@@ -167,11 +169,20 @@ pub struct SampledIpv4 {
 }
 
 impl SampledIpv4 {
+    // The whole layout is a row, so the framing needs no more than this.
+    pub fn row(p: Passed, s: &[u8]) -> Run
+        requires { ⌜ Within (now s) p ⌝ }
+        ensures { λ r. ⌜ Then (layout-of 2 3) (now (s .entry)) p (r .passed) (numbers 8 (now (s .entry)) (r .at)) ⌝ }
+        ensures { λ r. ⌜ There 8 (now (s .entry)) (r .passed) (r .at) ⌝ }
+    {
+        next::words(p, s, 8)
+    }
+
     pub fn parse(p: Passed, s: &[u8]) -> SampledIpv4
         requires { ⌜ Within (now s) p ⌝ }
         ensures { λ r. ⌜ Answers (layout-of 2 3) (now (s .entry)) p (r .outcome) (sampled-ipv4 r) ⌝ }
     {
-        let row = next::words(p, s, 8);
+        let row = SampledIpv4::row(p, s);
         let passed = row.passed;
         match passed {
             Passed::Stop(r) => SampledIpv4 {
@@ -186,7 +197,7 @@ impl SampledIpv4 {
                 tos: 0,
             },
             Passed::Got(d) => {
-                let words = next::load8(s, row.at, 8);
+                let words = next::load_words(s, row.at, 8);
                 SampledIpv4 {
                     outcome: d.accepted(),
                     length: words[0],
@@ -252,8 +263,8 @@ impl SampledIpv6 {
         match passed {
             Passed::Stop(r) => SampledIpv6::none(r),
             Passed::Got(d) => {
-                let head = next::load8(s, head_at, 2);
-                let tail = next::load8(s, row.at, 4);
+                let head = next::load_words(s, head_at, 2);
+                let tail = next::load_words(s, row.at, 4);
                 SampledIpv6 {
                     outcome: d.accepted(),
                     length: head[0],

@@ -53,13 +53,13 @@ struct Network {
     passed: Passed,
     ssid: Span,
     bssid: [u8; 6],
-    words: [u32; 8],
+    words: [u32; 11],
 }
 
 impl Network {
     fn parse(p: Passed, s: &[u8], n: u32) -> Network
         requires { ⌜ Within (now s) p ⌝ }
-        requires { ⌜ n ≤ 8 ⌝ }
+        requires { ⌜ n ≤ 11 ⌝ }
         ensures { λ r. ⌜ Then (str ∷ mac ∷ words n) (now (s .entry)) p (r .passed) (network n r) ⌝ }
     {
         let name = next::range(p, s, Kind::Text);
@@ -75,13 +75,13 @@ impl Network {
                 passed: Passed::Stop(r),
                 ssid: Span { start: 0, count: 0 },
                 bssid: [0u8; 6],
-                words: [0u32; 8],
+                words: [0u32; 11],
             },
             Passed::Got(d) => Network {
                 passed: Passed::Got(d),
                 ssid: ssid,
                 bssid: bssid,
-                words: next::load8(s, row.at, n as usize),
+                words: next::load_words(s, row.at, n as usize),
             },
         }
     }
@@ -134,7 +134,7 @@ impl Extended80211Rx {
         match passed {
             Passed::Stop(r) => Extended80211Rx::none(r),
             Passed::Got(d) => {
-                let tail = next::load8(s, row.at, 3);
+                let tail = next::load_words(s, row.at, 3);
                 Extended80211Rx {
                     outcome: d.accepted(),
                     ssid: ssid,

@@ -1,18 +1,19 @@
 -- The first pass over samples: a law for each way out of its functions, with the facts that the code has there. Assumes nothing.
-use Prim.Native.Nat.{ℕ, _+_, _≤_}
+use Prim.Native.Nat.{ℕ, _+_, _*_, _^_, _≤_, _<_}
 use mathlib.Core.Path.{_≡_, refl, sym, ap, _∙_}
 use mathlib.Core.Bool.{true}
 use mathlib.Core.List.{List, []}
 use native.Mathlib.Omega.{arith}
 use borrow.Author.Needs.{needs}
-use borrow.Author.Tests.{ne-eqb}
-use lib.ListN.{take}
+use borrow.Author.Tests.{leb-true, ne-eqb}
+use lib.Dec.{leb}
+use lib.ListN.{length, take}
+use mir.Syntax.{w64}
+use mir.Val.{Fits}
 use Rattle.reading.specs.Script.{Value, Script, give, repeat}
 use Rattle.reading.specs.Cursor.{Out, got, times, follow}
 use Rattle.reading.specs.Layout.{Field, fields, last-number, opened, framed, counter, samples, sample}
 use Rattle.reading.specs.Answer.{layout-of}
-use Rattle.reading.proofs.Faults.{fair}
-use Rattle.reading.proofs.Codes.{fair-layout}
 use Rattle.reading.proofs.Counts.{counted, counted-none, resumed, frame-at, frame-stop, frame-held, fields-stop, each-held}
 use Rattle.reading.proofs.Room.{thrifty-counter, thrifty-sample}
 use Rattle.xdr.specs.declared.Cursor.{Cursor}
@@ -20,17 +21,17 @@ use Rattle.xdr.specs.declared.Outcome.{Outcome}
 use Rattle.xdr.specs.declared.Span.{Span}
 use Rattle.xdr.specs.declared.Passed.{Passed}
 use Rattle.xdr.specs.declared.Passed.the-variants as passed
-use Rattle.xdr.specs.Shown.{place, Inside, Reads, Answers, passed-of, refusal}
-use Rattle.xdr.proofs.Ends.{reads-on}
-use Rattle.xdr.proofs.Rows.{shown-row, shown-halt, reads-inside, row-forward}
+use Rattle.xdr.specs.Shown.{place, refusal}
+use Rattle.xdr.proofs.Rows.{row-forward}
 use Rattle.flows.specs.declared.frames.Frame.{Frame}
 use Rattle.flows.specs.declared.frames.Frame.the-variants as frame
 use Rattle.flows.specs.declared.frames.Scanned.{Scanned}
 use Rattle.flows.specs.declared.frames.Scanned.the-variants as scanned
 use Rattle.flows.specs.Scanned.{Scan, frame-out, scanned-out}
+use Rattle.flows.specs.Chain.{Then, goes, halts, Sure, There}
 use Rattle.flows.proofs.Chain.{within-start}
 use Rattle.flows.proofs.Scan.{scan-inside, Thrift, scan-on, scan-done, scan-turn, scan-stop, frame-ends, frame-fits, frame-part, frame-counts, frame-scan}
-use Rattle.samples.specs.Held.{Counted, on, over, rest-of}
+use Rattle.samples.specs.Held.{Counted, on, over, Has-last, rest-of}
 
 pub counter-thrift : Thrift counter
 counter-thrift = record { is = thrifty-counter }
@@ -69,6 +70,11 @@ module _ (body : Script) (s : List ℕ) (n k : ℕ) where
   unfolding rest-of
   behind-got h q = rw h q
 
+-- their count is known by another name
+pub behind-last : (body : Script) (s : List ℕ) (k : ℕ) {n m : ℕ} {p : Passed} {d : Cursor} {o : Out ℕ} → p ≡ passed.Got d → n ≡ m → o ≡ counted k (times n (follow body) s (place d)) → o ≡ rest-of body s p m k
+unfolding rest-of
+behind-last body s k h e q = rw (h, ← e) q
+
 pub counted-scan : {s : List ℕ} {p : Passed} {k : ℕ} {d : Cursor} → Counted s p k → p ≡ passed.Got d → Scan s d k
 counted-scan {s} {p} {k} {d} g h = go (rw h at g)
   where
@@ -76,27 +82,35 @@ counted-scan {s} {p} {k} {d} g h = go (rw h at g)
     go (on i) = i
 
 -- the fields were read or refused inside
-pub fields-counted : {vs : List Value} {o : Outcome} {p : Passed} {l : List Field} {s : List ℕ} {c : Cursor} {k : ℕ} → Answers l s (passed.Got c) o vs → p ≡ passed-of o → fair l ≡ true → Scan s c k → Counted s p k
-fields-counted {vs} {p = p} {l} {s} {c} {k} a h z g = go p (reads-on a h z)
-  where
-    go : (p : Passed) → Reads l s c p vs → Counted s p k
-    go (passed.Got d) e =
-        let i : Inside s d = reads-inside l s c e refl (scan-inside g) in
-        let f : c .at ≤ d .at = row-forward l s c (shown-row s c l e refl) (g .inside) in
-        on {k = k} (record { inside = i .inside; counted = i .counted; few = omega (arith, g .few) })
-    go (passed.Stop x) e = over
+pub fields-counted : {vs : List Value} {p : Passed} (l : List Field) (s : List ℕ) (c : Cursor) (k : ℕ) → Then l s (passed.Got c) p vs → Scan s c k → Counted s p k
+fields-counted l s c k (goes {e = d} e i) g =
+    let f : c .at ≤ d .at = row-forward l s c (record { gives = e }) (g .inside) in
+    on {k = k} (record { inside = i .inside; counted = i .counted; few = omega (arith, g .few) })
+fields-counted l s c k (halts e) g = over
+
+-- their last word, which counts what follows
+module _ {s : List ℕ} {q : Passed} {at : ℕ} where
+  pub has-last : {n : ℕ} (last : ℕ) → There n s q at → leb (last + 4) (4 * n) ≡ true → Has-last s q at last
+  has-last {n} last t e = record { fits = λ w. omega (arith, t .fits w, leb-true (last + 4) (4 * n) e) }
+
+  module _ {last : ℕ} {d : Cursor} (h : Has-last s q at last) (e : q ≡ passed.Got d) where
+    pub last-there : at + last + 4 ≤ length s
+    last-there = h .fits (record { cursor = d; is = e })
+
+    pub last-fits : length s < 2 ^ 64 → Fits w64 (at + last)
+    last-fits l = record { fits = omega (arith, last-there) }
 
 -- ---- the arm of a format
 module _ (f : ℕ) (body : Script) (s : List ℕ) (c : Cursor) (k : ℕ) where
-  each : {vs : List Value} (l : List Field) (p : Passed) → Reads l s c p vs → rest-of body s p (last-number vs) k ≡ counted k (follow (fields l (λ us. repeat (last-number us) body (λ a. give a))) s (place c))
+  each : {vs : List Value} {p : Passed} (l : List Field) → Then l s (passed.Got c) p vs → rest-of body s p (last-number vs) k ≡ counted k (follow (fields l (λ us. repeat (last-number us) body (λ a. give a))) s (place c))
   unfolding rest-of
-  each l (passed.Got d) e = sym (each-held l s (place c) k body (shown-row s c l e refl .gives))
-  each l (passed.Stop x) e = fields-stop l s (place c) k _ (shown-halt s c l e refl .stops)
+  each l (goes e i) = sym (each-held l s (place c) k body e)
+  each l (halts e) = fields-stop l s (place c) k _ e
 
-  pub sample-arm : {n m : ℕ} {x : Outcome} {p : Passed} {vs : List Value} {o : Out ℕ} → Answers (layout-of 1 f) s (passed.Got c) x vs → p ≡ passed-of x → m ≡ f → last-number vs ≡ n → o ≡ rest-of body s p n k
+  pub sample-arm : {n m : ℕ} {p : Passed} {vs : List Value} {o : Out ℕ} → Then (layout-of 1 f) s (passed.Got c) p vs → m ≡ f → last-number vs ≡ n → o ≡ rest-of body s p n k
       → opened (samples 8) f ≡ fields (layout-of 1 f) (λ us. repeat (last-number us) body (λ a. give a)) → o ≡ counted k (follow (opened (samples 8) m) s (place c))
-  sample-arm {p = p} a i h z q r =
-      q ∙ ap (λ (n : ℕ). rest-of body s p n k) (sym z) ∙ each (layout-of 1 f) p (reads-on a i (fair-layout 1 f))
+  sample-arm {p = p} t h z q r =
+      q ∙ ap (λ (n : ℕ). rest-of body s p n k) (sym z) ∙ each (layout-of 1 f) t
       ∙ ap (λ (x : Script). counted k (follow x s (place c))) (sym r ∙ ap (opened (samples 8)) (sym h))
 
 pub sample-raw : (s : List ℕ) (c : Cursor) (f k : ℕ) → (f ≡ 1 → ⊥) → (f ≡ 2 → ⊥) → (f ≡ 3 → ⊥) → (f ≡ 4 → ⊥) → (f ≡ 5 → ⊥) → got k (place c) ≡ counted k (follow (opened (samples 8) f) s (place c))
@@ -122,8 +136,12 @@ pub ruleset sampling = (
   counter-got,
   behind-cut,
   behind-got,
+  behind-last,
   counted-scan,
   fields-counted,
+  has-last,
+  last-there,
+  last-fits,
   within-start,
   needs,
 )

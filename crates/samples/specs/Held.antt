@@ -1,6 +1,7 @@
 -- What stands behind a sample's fields, in terms of the reading. Assumes nothing.
-use Prim.Native.Nat.{ℕ}
+use Prim.Native.Nat.{ℕ, _+_, _≤_}
 use mathlib.Core.List.{List}
+use lib.ListN.{length}
 use Rattle.reading.specs.Script.{Script}
 use Rattle.reading.specs.Cursor.{Out, times, follow}
 use Rattle.reading.proofs.Counts.{counted}
@@ -9,12 +10,17 @@ use Rattle.xdr.specs.declared.Outcome.{Outcome}
 use Rattle.xdr.specs.declared.Passed.{Passed}
 use Rattle.xdr.specs.declared.Passed.the-variants as passed
 use Rattle.xdr.specs.Shown.{place, refusal}
+use Rattle.flows.specs.Chain.{Sure}
 use Rattle.flows.specs.Scanned.{Scan}
 
 -- an outcome from which records can be counted on
 pub data Counted (s : List ℕ) : Passed → ℕ → Type 0 where
   on : {c : Cursor} {k : ℕ} → Scan s c k → Counted s (passed.Got c) k
   over : {x : Outcome} {k : ℕ} → Counted s (passed.Stop x) k
+
+-- the row at a place, if it was read, has a word so many bytes behind its start
+pub record Has-last (s : List ℕ) (q : Passed) (at last : ℕ) : Type 0 where
+  pub fits : Sure q → at + last + 4 ≤ length s
 
 -- n of `body` from where the fields ended, on top of k descriptors; or the fields' refusal
 unfoldable pub rest-of : Script → List ℕ → Passed → (n k : ℕ) → Out ℕ

@@ -1,12 +1,15 @@
-// The fields of a sample before its records, a reader for each format.
+// The fields of a sample before its records, a reader for each format. They are one row of words, which is all that the framing needs of
+// them; the last is the count of the records.
 ghost use mathlib.Core.Path.{_≡_};
 ghost use Rattle.reading.specs.Layout.{words};
 ghost use Rattle.reading.specs.Values.{zeros};
 ghost use Rattle.reading.specs.Answer.{layout-of};
+ghost use Rattle.reading.proofs.Words.{numbers};
 ghost use Rattle.xdr.specs.Shown.{Answers};
-ghost use Rattle.flows.specs.Chain.{Within};
+ghost use Rattle.flows.specs.Chain.{Within, Then, There};
 ghost use Rattle.samples.specs.Shown.{flow-sample, counters-sample, flow-sample-expanded, counters-sample-expanded, discarded-packet};
 use flows::next;
+use flows::next::Run;
 use numbers::DataSource;
 use numbers::Interface;
 use xdr::Outcome;
@@ -41,11 +44,19 @@ pub struct FlowSample {
 }
 
 impl FlowSample {
+    pub fn row(p: Passed, s: &[u8]) -> Run
+        requires { ⌜ Within (now s) p ⌝ }
+        ensures { λ r. ⌜ Then (layout-of 1 1) (now (s .entry)) p (r .passed) (numbers 8 (now (s .entry)) (r .at)) ⌝ }
+        ensures { λ r. ⌜ There 8 (now (s .entry)) (r .passed) (r .at) ⌝ }
+    {
+        next::words(p, s, 8)
+    }
+
     pub fn parse(p: Passed, s: &[u8]) -> FlowSample
         requires { ⌜ Within (now s) p ⌝ }
         ensures { λ r. ⌜ Answers (layout-of 1 1) (now (s .entry)) p (r .outcome) (flow-sample r) ⌝ }
     {
-        let row = next::words(p, s, 8);
+        let row = FlowSample::row(p, s);
         let passed = row.passed;
         match passed {
             Passed::Stop(r) => FlowSample {
@@ -60,7 +71,7 @@ impl FlowSample {
                 num_records: 0,
             },
             Passed::Got(d) => {
-                let words = next::load8(s, row.at, 8);
+                let words = next::load_words(s, row.at, 8);
                 FlowSample {
                     outcome: d.accepted(),
                     sequence_number: words[0],
@@ -87,11 +98,19 @@ pub struct CountersSample {
 }
 
 impl CountersSample {
+    pub fn row(p: Passed, s: &[u8]) -> Run
+        requires { ⌜ Within (now s) p ⌝ }
+        ensures { λ r. ⌜ Then (layout-of 1 2) (now (s .entry)) p (r .passed) (numbers 3 (now (s .entry)) (r .at)) ⌝ }
+        ensures { λ r. ⌜ There 3 (now (s .entry)) (r .passed) (r .at) ⌝ }
+    {
+        next::words(p, s, 3)
+    }
+
     pub fn parse(p: Passed, s: &[u8]) -> CountersSample
         requires { ⌜ Within (now s) p ⌝ }
         ensures { λ r. ⌜ Answers (layout-of 1 2) (now (s .entry)) p (r .outcome) (counters-sample r) ⌝ }
     {
-        let row = next::words(p, s, 3);
+        let row = CountersSample::row(p, s);
         let passed = row.passed;
         match passed {
             Passed::Stop(r) => CountersSample {
@@ -101,7 +120,7 @@ impl CountersSample {
                 num_records: 0,
             },
             Passed::Got(d) => {
-                let words = next::load8(s, row.at, 3);
+                let words = next::load_words(s, row.at, 3);
                 CountersSample {
                     outcome: d.accepted(),
                     sequence_number: words[0],
@@ -128,6 +147,14 @@ pub struct FlowSampleExpanded {
 }
 
 impl FlowSampleExpanded {
+    pub fn row(p: Passed, s: &[u8]) -> Run
+        requires { ⌜ Within (now s) p ⌝ }
+        ensures { λ r. ⌜ Then (layout-of 1 3) (now (s .entry)) p (r .passed) (numbers 11 (now (s .entry)) (r .at)) ⌝ }
+        ensures { λ r. ⌜ There 11 (now (s .entry)) (r .passed) (r .at) ⌝ }
+    {
+        next::words(p, s, 11)
+    }
+
     fn none(r: Outcome) -> FlowSampleExpanded
         ensures { λ a. ⌜ (a .outcome ≡ r) × (flow-sample-expanded a ≡ zeros (words 11)) ⌝ }
     {
@@ -157,35 +184,31 @@ impl FlowSampleExpanded {
         requires { ⌜ Within (now s) p ⌝ }
         ensures { λ r. ⌜ Answers (layout-of 1 3) (now (s .entry)) p (r .outcome) (flow-sample-expanded r) ⌝ }
     {
-        let row = next::words(p, s, 8);
-        let passed = row.passed;
-        let first_at = row.at;
-        let row = next::words(passed, s, 3);
+        let row = FlowSampleExpanded::row(p, s);
         let passed = row.passed;
         match passed {
             Passed::Stop(r) => FlowSampleExpanded::none(r),
             Passed::Got(d) => {
-                let first = next::load8(s, first_at, 8);
-                let last = next::load8(s, row.at, 3);
+                let words = next::load_words(s, row.at, 11);
                 FlowSampleExpanded {
                     outcome: d.accepted(),
-                    sequence_number: first[0],
+                    sequence_number: words[0],
                     source_id: DataSourceExpanded {
-                        source_id_type: first[1],
-                        source_id_index: first[2],
+                        source_id_type: words[1],
+                        source_id_index: words[2],
                     },
-                    sampling_rate: first[3],
-                    sample_pool: first[4],
-                    drops: first[5],
+                    sampling_rate: words[3],
+                    sample_pool: words[4],
+                    drops: words[5],
                     input: InterfaceExpanded {
-                        format: first[6],
-                        value: first[7],
+                        format: words[6],
+                        value: words[7],
                     },
                     output: InterfaceExpanded {
-                        format: last[0],
-                        value: last[1],
+                        format: words[8],
+                        value: words[9],
                     },
-                    num_records: last[2],
+                    num_records: words[10],
                 }
             }
         }
@@ -202,11 +225,19 @@ pub struct CountersSampleExpanded {
 }
 
 impl CountersSampleExpanded {
+    pub fn row(p: Passed, s: &[u8]) -> Run
+        requires { ⌜ Within (now s) p ⌝ }
+        ensures { λ r. ⌜ Then (layout-of 1 4) (now (s .entry)) p (r .passed) (numbers 4 (now (s .entry)) (r .at)) ⌝ }
+        ensures { λ r. ⌜ There 4 (now (s .entry)) (r .passed) (r .at) ⌝ }
+    {
+        next::words(p, s, 4)
+    }
+
     pub fn parse(p: Passed, s: &[u8]) -> CountersSampleExpanded
         requires { ⌜ Within (now s) p ⌝ }
         ensures { λ r. ⌜ Answers (layout-of 1 4) (now (s .entry)) p (r .outcome) (counters-sample-expanded r) ⌝ }
     {
-        let row = next::words(p, s, 4);
+        let row = CountersSampleExpanded::row(p, s);
         let passed = row.passed;
         match passed {
             Passed::Stop(r) => CountersSampleExpanded {
@@ -219,7 +250,7 @@ impl CountersSampleExpanded {
                 num_records: 0,
             },
             Passed::Got(d) => {
-                let words = next::load8(s, row.at, 4);
+                let words = next::load_words(s, row.at, 4);
                 CountersSampleExpanded {
                     outcome: d.accepted(),
                     sequence_number: words[0],
@@ -248,11 +279,19 @@ pub struct DiscardedPacket {
 }
 
 impl DiscardedPacket {
+    pub fn row(p: Passed, s: &[u8]) -> Run
+        requires { ⌜ Within (now s) p ⌝ }
+        ensures { λ r. ⌜ Then (layout-of 1 5) (now (s .entry)) p (r .passed) (numbers 8 (now (s .entry)) (r .at)) ⌝ }
+        ensures { λ r. ⌜ There 8 (now (s .entry)) (r .passed) (r .at) ⌝ }
+    {
+        next::words(p, s, 8)
+    }
+
     pub fn parse(p: Passed, s: &[u8]) -> DiscardedPacket
         requires { ⌜ Within (now s) p ⌝ }
         ensures { λ r. ⌜ Answers (layout-of 1 5) (now (s .entry)) p (r .outcome) (discarded-packet r) ⌝ }
     {
-        let row = next::words(p, s, 8);
+        let row = DiscardedPacket::row(p, s);
         let passed = row.passed;
         match passed {
             Passed::Stop(r) => DiscardedPacket {
@@ -269,7 +308,7 @@ impl DiscardedPacket {
                 num_records: 0,
             },
             Passed::Got(d) => {
-                let words = next::load8(s, row.at, 8);
+                let words = next::load_words(s, row.at, 8);
                 DiscardedPacket {
                     outcome: d.accepted(),
                     sequence_number: words[0],

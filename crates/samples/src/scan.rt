@@ -1,12 +1,14 @@
 // The first pass over samples: judged and counted, with nothing kept.
 ghost use mathlib.Core.Path.{_≡_};
+ghost use Prim.Native.Nat.{_+_};
+ghost use Rattle.reading.specs.Bytes.{be4};
 ghost use Rattle.reading.specs.Cursor.{times, follow};
 ghost use Rattle.reading.specs.Layout.{opened, flow, counter, samples, sample};
 ghost use Rattle.reading.proofs.Counts.{counted};
 ghost use Rattle.xdr.specs.Shown.{place};
 ghost use Rattle.flows.specs.Scanned.{Scan, scanned-out};
 ghost use Rattle.flows.specs.Chain.{Within};
-ghost use Rattle.samples.specs.Held.{Counted, rest-of};
+ghost use Rattle.samples.specs.Held.{Counted, Has-last, rest-of};
 use crate::fields::CountersSample;
 use crate::fields::CountersSampleExpanded;
 use crate::fields::DiscardedPacket;
@@ -14,9 +16,11 @@ use crate::fields::FlowSample;
 use crate::fields::FlowSampleExpanded;
 use flows::frames::Frame;
 use flows::frames::Scanned;
+use flows::next::Run;
 use flows::records;
 use xdr::Cursor;
 use xdr::Passed;
+use xdr::load;
 
 // One counter record, kept raw.
 fn counter_record(s: &[u8], c: Cursor, count: usize) -> Scanned
@@ -52,25 +56,35 @@ fn counter_records(s: &[u8], c: Cursor, n: u32, count: usize) -> Scanned
     Scanned::Got(cur, found)
 }
 
-// The flow records behind a sample's fields, where those were read.
-fn flows_behind(s: &[u8], p: Passed, n: u32, count: usize) -> Scanned
-    requires { ⌜ Counted (now s) p count ⌝ }
-    ensures { λ r. ⌜ scanned-out r ≡ rest-of (flow 8 8) (now (s .entry)) p n count ⌝ }
+// The flow records behind a sample's row, where that was read; its word at `last` counts them.
+fn flows_behind(s: &[u8], row: Run, last: usize, count: usize) -> Scanned
+    requires { ⌜ Counted (now s) (row .passed) count ⌝ }
+    requires { ⌜ Has-last (now s) (row .passed) (row .at) last ⌝ }
+    ensures { λ r. ⌜ scanned-out r ≡ rest-of (flow 8 8) (now (s .entry)) (row .passed) (be4 (now (s .entry)) (row .at + last)) count ⌝ }
 {
-    match p {
+    let passed = row.passed;
+    match passed {
         Passed::Stop(r) => Scanned::Stop(r),
-        Passed::Got(d) => records::flow_records(s, d, n, 8, count),
+        Passed::Got(d) => {
+            let n = load::be32(s, row.at + last);
+            records::flow_records(s, d, n, 8, count)
+        }
     }
 }
 
-// The counter records behind a sample's fields, where those were read.
-fn counters_behind(s: &[u8], p: Passed, n: u32, count: usize) -> Scanned
-    requires { ⌜ Counted (now s) p count ⌝ }
-    ensures { λ r. ⌜ scanned-out r ≡ rest-of counter (now (s .entry)) p n count ⌝ }
+// The same of counter records.
+fn counters_behind(s: &[u8], row: Run, last: usize, count: usize) -> Scanned
+    requires { ⌜ Counted (now s) (row .passed) count ⌝ }
+    requires { ⌜ Has-last (now s) (row .passed) (row .at) last ⌝ }
+    ensures { λ r. ⌜ scanned-out r ≡ rest-of counter (now (s .entry)) (row .passed) (be4 (now (s .entry)) (row .at + last)) count ⌝ }
 {
-    match p {
+    let passed = row.passed;
+    match passed {
         Passed::Stop(r) => Scanned::Stop(r),
-        Passed::Got(d) => counter_records(s, d, n, count),
+        Passed::Got(d) => {
+            let n = load::be32(s, row.at + last);
+            counter_records(s, d, n, count)
+        }
     }
 }
 
@@ -81,31 +95,11 @@ fn sample_data(s: &[u8], c: Cursor, format: u32, count: usize) -> Scanned
 {
     let p = Passed::Got(c);
     match format {
-        1 => {
-            let h = FlowSample::parse(p, s);
-            let outcome = h.outcome;
-            flows_behind(s, outcome.passed(), h.num_records, count)
-        }
-        2 => {
-            let h = CountersSample::parse(p, s);
-            let outcome = h.outcome;
-            counters_behind(s, outcome.passed(), h.num_records, count)
-        }
-        3 => {
-            let h = FlowSampleExpanded::parse(p, s);
-            let outcome = h.outcome;
-            flows_behind(s, outcome.passed(), h.num_records, count)
-        }
-        4 => {
-            let h = CountersSampleExpanded::parse(p, s);
-            let outcome = h.outcome;
-            counters_behind(s, outcome.passed(), h.num_records, count)
-        }
-        5 => {
-            let h = DiscardedPacket::parse(p, s);
-            let outcome = h.outcome;
-            flows_behind(s, outcome.passed(), h.num_records, count)
-        }
+        1 => flows_behind(s, FlowSample::row(p, s), 28, count),
+        2 => counters_behind(s, CountersSample::row(p, s), 8, count),
+        3 => flows_behind(s, FlowSampleExpanded::row(p, s), 40, count),
+        4 => counters_behind(s, CountersSampleExpanded::row(p, s), 12, count),
+        5 => flows_behind(s, DiscardedPacket::row(p, s), 28, count),
         _ => Scanned::Got(c, count),
     }
 }

@@ -10,21 +10,16 @@ unfolding layout-of opened samples last-number
 sample-data-spec =
     tie.close
     (tie.spec
-    (λ c κs. search sampling)  -- parse-requires
-    (λ c κs. search sampling)  -- passed-requires
-    (λ c κs. search sampling)  -- flows-behind-requires scan.rt:87:13
-    (λ c κs. search sampling)  -- parse-requires-2
-    (λ c κs. search sampling)  -- passed-requires-2
-    (λ c κs. search sampling)  -- counters-behind-requires scan.rt:93:13
-    (λ c κs. search sampling)  -- parse-requires-3
-    (λ c κs. search sampling)  -- passed-requires-3
-    (λ c κs. search sampling)  -- flows-behind-requires-2 scan.rt:99:13
-    (λ c κs. search sampling)  -- parse-requires-4
-    (λ c κs. search sampling)  -- passed-requires-4
-    (λ c κs. search sampling)  -- counters-behind-requires-2 scan.rt:105:13
-    (λ c κs. search sampling)  -- parse-requires-5
-    (λ c κs. search sampling)  -- passed-requires-5
-    (λ c κs. search sampling)  -- flows-behind-requires-3 scan.rt:111:13
+    (λ c κs. search sampling)  -- row-requires
+    (λ c κs. search sampling)  -- flows-behind-requires
+    (λ c κs. search sampling)  -- row-requires-2
+    (λ c κs. search sampling)  -- counters-behind-requires
+    (λ c κs. search sampling)  -- row-requires-3
+    (λ c κs. search sampling)  -- flows-behind-requires
+    (λ c κs. search sampling)  -- row-requires-4
+    (λ c κs. search sampling)  -- counters-behind-requires
+    (λ c κs. search sampling)  -- row-requires-5
+    (λ c κs. search sampling)  -- flows-behind-requires
     (λ c. search (sample-arm 1 (flow 8 8)))  -- returns scan.rt:78:1
     (λ c. search (sample-arm 2 counter))  -- returns-2 scan.rt:78:1
     (λ c. search (sample-arm 3 (flow 8 8)))  -- returns-3 scan.rt:78:1

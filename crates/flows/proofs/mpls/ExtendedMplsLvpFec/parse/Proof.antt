@@ -1,6 +1,6 @@
 use Rattle.reading.specs.Layout.{flows}
 use Rattle.reading.specs.Answer.{layout-of}
-use Rattle.flows.proofs.Chain.{steps, rows}
+use Rattle.flows.proofs.Chain.{steps, places, rows}
 use Rattle.flows.proofs.mpls.ExtendedMplsLvpFec.parse.Statement.{statement}
 use Rattle.flows.proofs.mpls.ExtendedMplsLvpFec.parse.Tie as tie
 
@@ -8,10 +8,12 @@ pub parse-spec : {M : Type 1} → statement M
 unfolding layout-of flows
 parse-spec =
     tie.close (tie.spec
-    (λ c κs. search steps)  -- word-requires
+    (λ c κs. search steps)  -- row-requires
     (λ c. search steps)  -- enum-known-passed
     (λ c. search steps)  -- enum-known-passed-2
+    (λ c κs. search places)  -- load-words-requires
     (λ c κs. search steps)  -- accepted-requires
+    (λ c. search steps)  -- array-read
     (λ c. search rows)  -- returns
     (λ c. search rows)  -- returns-2
     )

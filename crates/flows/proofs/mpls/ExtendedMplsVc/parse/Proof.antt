@@ -13,7 +13,7 @@ parse-spec =
     (λ c κs. search steps)  -- words-requires
     (λ c. search steps)  -- enum-known-passed
     (λ c. search steps)  -- enum-known-passed-2
-    (λ c κs. search places)  -- load8-requires
+    (λ c κs. search places)  -- load-words-requires
     (λ c κs. search steps)  -- accepted-requires
     (λ c. search steps)  -- array-read-t18
     (λ c. search steps)  -- array-read-t21

@@ -9,10 +9,10 @@ unfolding layout-of samples
 parse-spec =
     tie.close
     (tie.spec
-    (λ c κs. search steps)  -- words-requires
+    (λ c κs. search steps)  -- row-requires
     (λ c. search steps)  -- enum-known-passed
     (λ c. search steps)  -- enum-known-passed-2
-    (λ c κs. search places)  -- load8-requires
+    (λ c κs. search places)  -- load-words-requires
     (λ c κs. search steps)  -- accepted-requires
     (λ c. search steps)  -- array-read-t15
     (λ c. search steps)  -- array-read-t18

@@ -1,9 +1,9 @@
 use Rattle.flows.proofs.Chain.{items}
-use Rattle.flows.proofs.next.load8.Statement.{statement}
-use Rattle.flows.proofs.next.load8.Tie as tie
+use Rattle.flows.proofs.next.load_words.Statement.{statement}
+use Rattle.flows.proofs.next.load_words.Tie as tie
 
-pub load8-spec : {M : Type 1} → statement M
-load8-spec =
+pub load-words-spec : {M : Type 1} → statement M
+load-words-spec =
     tie.close
     (tie.spec
     (λ c κs. search items)  -- load1-requires
@@ -14,5 +14,8 @@ load8-spec =
     (λ c κs. search items)  -- load1-requires-6
     (λ c κs. search items)  -- load1-requires-7
     (λ c κs. search items)  -- load1-requires-8
+    (λ c κs. search items)  -- load1-requires-9
+    (λ c κs. search items)  -- load1-requires-10
+    (λ c κs. search items)  -- load1-requires-11
     (λ c. search items)  -- returns
     )
