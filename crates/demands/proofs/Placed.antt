@@ -1,0 +1,119 @@
+-- Demand 3, of the descriptors in the store: a descriptor's range lies inside its parent's, and of two with one parent the second starts
+-- at or after the end of the first. For one datagram, and for a run. Assumes nothing.
+use Prim.Native.Nat.{ℕ, zero, suc, _+_, _*_, _-_, _≤_, _<_}
+use mathlib.Core.Path.{_≡_, refl, sym, ap, _∙_, subst}
+use mathlib.Core.Bool.{Bool, true, false, cond}
+use mathlib.Core.List.{List, [], _∷_, _++_, append-assoc}
+use native.Mathlib.Omega.{arith}
+use borrow.Author.Tests.{leb-true, leb-false}
+use lib.Dec.{leb}
+use lib.ListN.{length, getD, drop}
+use lib.Seq.{getD-append-add}
+use Rattle.reading.specs.Script.{Value, Forest, bare, tree, Found}
+use Rattle.reading.specs.Cursor.{Place, Out, got, stop, follow}
+use Rattle.reading.specs.Layout.{depth-limit, datagram}
+use Rattle.reading.specs.Answer.{limit, limited, from, nobody, size, rows, room, Header, header-of, no-header, Answer, refused, stored, one, datagrams, run}
+use Rattle.reading.proofs.Faults.{either}
+use Rattle.reading.proofs.Stored.{rows-length}
+use Rattle.reading.proofs.Descriptors.{entry}
+use Rattle.demands.proofs.Codes.{Told, fine, fault, datagram-told, run-told}
+use Rattle.demands.proofs.Quarter.{one-size, run-size}
+use Rattle.demands.proofs.Nested.{end, Nested, datagram-nested, run-nested}
+use Rattle.demands.proofs.Siblings.{Row, Inside, In, this, within, behind, Parent, own, before, parted, Outside, over, parent-holds, siblings-apart}
+
+unfoldable pub row : (store : List ℕ) → (index : ℕ) → Row
+row w i = record { span = record { start = entry w i 2; count = entry w i 3 }; parent = entry w i 4 }
+
+same : (v w : List ℕ) (i j : ℕ) → ((k : ℕ) → entry v i k ≡ entry w j k) → row v i ≡ row w j
+unfolding row
+same v w i j e = λ t. record { span = record { start = e 2 t; count = e 3 t }; parent = e 4 t }
+
+past-one : (a b c d e f i : ℕ) (l : List ℕ) → row (a ∷ b ∷ c ∷ d ∷ e ∷ f ∷ l) (suc i) ≡ row l i
+past-one a b c d e f i l =
+    same (a ∷ b ∷ c ∷ d ∷ e ∷ f ∷ l) l (suc i) i (λ k.
+    ap (λ (n : ℕ). getD (a ∷ b ∷ c ∷ d ∷ e ∷ f ∷ l) n 0) {x = 6 * suc i + k} {y = suc (suc (suc (suc (suc (suc (6 * i + k))))))} (omega arith))
+
+past : (l m : List ℕ) (n i : ℕ) → length l ≡ 6 * n → n ≤ i → row (l ++ m) i ≡ row m (i - n)
+past l m n i e h =
+    same (l ++ m) m i (i - n) (λ k.
+    ap (λ (j : ℕ). getD (l ++ m) j 0) {x = 6 * i + k} {y = length l + (6 * (i - n) + k)} (omega arith) ∙ getD-append-add l m (6 * (i - n) + k) 0)
+
+stands-in : (f : Forest) (j p i k : ℕ) (rest : List ℕ) → i < size f → k ≡ j + i → In f j p k (row (rows j p f ++ rest) i)
+unfolding rows size row
+stands-in bare j p i k rest h e = absurd (omega arith)
+stands-in (tree r a b) j p zero k rest h e = let z : k ≡ j = omega arith in this z
+stands-in (tree r a b) j p (suc i) k rest h e =
+    let x = rows (j + 1) j a in
+    let y = rows (j + 1 + size a) p b ++ rest in
+    subst (In (tree r a b) j p k)
+    (sym (past-one (r .kind) (r .format) (r .span .start) (r .span .count) p (r .depth) i ((x ++ rows (j + 1 + size a) p b) ++ rest)
+    ∙ ap (λ (l : List ℕ). row l i) (append-assoc x (rows (j + 1 + size a) p b) rest)))
+    (go (λ l. stands-in a (j + 1) j i k y l (omega arith)) (λ l. stands-in b (j + 1 + size a) p (i - size a) k rest l) (past x y (size a) i (rows-length (j + 1) j a)) (leb (size a) i) refl)
+  where
+    go : {u v : Row} → (i < size a → In a (j + 1) j k u) → (i - size a < size b → k ≡ j + 1 + size a + (i - size a) → In b (j + 1 + size a) p k v)
+        → (size a ≤ i → u ≡ v) → (t : Bool) → leb (size a) i ≡ t → In (tree r a b) j p k u
+    go f g q false t = within (f (omega (arith, leb-false)))
+    go f g q true t = let l : size a ≤ i = leb-true (size a) i t in subst (In (tree r a b) j p k) (sym (q l)) (behind (g (omega arith) (omega arith)))
+
+-- the descriptors of a store, so many of them, are in place
+pub record In-place (w : List ℕ) (n : ℕ) : Type 0 where
+  -- one whose parent is not nobody has it before itself, and lies inside it
+  pub parent-before : (i : ℕ) → i < n → (row w i .parent ≡ nobody → ⊥) → row w i .parent < i
+  pub parent-holds : (i : ℕ) → i < n → (row w i .parent ≡ nobody → ⊥) → Inside (row w i .span) (row w (row w i .parent) .span)
+  -- of two with one parent the second starts at or after the end of the first
+  pub siblings-apart : (i k : ℕ) → i < k → k < n → row w i .parent ≡ row w k .parent → end (row w i .span) ≤ row w k .span .start
+
+module _ (f : Forest) {lo hi : ℕ} (nested : Nested lo hi f) (few : size f ≤ nobody) (rest : List ℕ) where
+  listed : (i : ℕ) → i < size f → In f 0 nobody i (row (rows 0 nobody f ++ rest) i)
+  listed i h = stands-in f 0 nobody i i rest h (omega arith)
+
+  outside : Outside f 0 nobody
+  outside = over (omega arith)
+
+  first : (i : ℕ) → i < size f → (row (rows 0 nobody f ++ rest) i .parent ≡ nobody → ⊥) → row (rows 0 nobody f ++ rest) i .parent < i
+  first i h z = go (parted (listed i h) .parent)
+    where
+      go : Parent nobody 0 i (row (rows 0 nobody f ++ rest) i .parent) → row (rows 0 nobody f ++ rest) i .parent < i
+      go (own e) = absurd (z e)
+      go (before u v) = v
+
+  pub rows-in-place : In-place (rows 0 nobody f ++ rest) (size f)
+  rows-in-place =
+      record {
+        parent-before = first;
+        parent-holds = λ i h z. let l = first i h z in parent-holds nested outside (listed i h) (listed (row (rows 0 nobody f ++ rest) i .parent) (omega arith)) refl;
+        siblings-apart = λ i k l h z. siblings-apart nested outside (listed i (omega arith)) (listed k h) l z;
+      }
+
+-- ---- of an answer
+
+abbrev pub Placed : Answer → Type 0
+Placed a = a .code ≡ 0 → In-place (a .store) (a .needed)
+
+module _ (s w : List ℕ) where
+  stored-placed : (head : List Value → Header) (o : Out Found) → Told o → ((a : Found) (q : Place) → o ≡ got a q → Nested 0 (q .at) (a .ranges))
+      → ((a : Found) (q : Place) → o ≡ got a q → 4 * size (a .ranges) ≤ length s) → length s ≤ limit → Placed (stored head o w)
+  unfolding stored
+  stored-placed head (got a q) t n f short =
+      let k = f a q refl in
+      either Placed (leb (size (a .ranges)) (room w)) (λ z. rows-in-place (a .ranges) (n a q refl) (omega arith) (drop (6 * size (a .ranges)) w)) (λ z. absurd (omega arith))
+  stored-placed head (stop c a n) (fault k) m f short = λ z. absurd (omega arith)
+
+  within-limit : (x : Answer) → (length s ≤ limit → Placed x) → Placed (limited s x (refused 1 0 0 0 w))
+  within-limit x h = go (leb (length s) limit) refl
+    where
+      go : (b : Bool) → leb (length s) limit ≡ b → Placed (cond b x (refused 1 0 0 0 w))
+      go true e = h (leb-true (length s) limit e)
+      go false e = λ z. absurd (omega arith)
+
+  pub one-placed : Placed (one s w)
+  unfolding one
+  one-placed =
+      within-limit _ (stored-placed header-of (follow datagram s (from 0)) (datagram-told depth-limit s (from 0))
+      (λ a q e. datagram-nested depth-limit s (from 0) a q (omega arith) e) (one-size s w))
+
+  pub run-placed : Placed (run s w)
+  unfolding run
+  run-placed =
+      within-limit _ (stored-placed (λ _. no-header) (datagrams (length s) s (from 0)) (run-told (length s) s (from 0))
+      (λ a q e. run-nested (length s) s (from 0) a q (omega arith) e) (run-size s w))

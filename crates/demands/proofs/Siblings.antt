@@ -1,0 +1,111 @@
+-- Demand 3, of descriptors by their indices: of nested ranges, one lies inside its parent's, and of two with one parent the second starts at or
+-- after the end of the first. By the forest that the descriptors are of; `Placed` says it of the store. Assumes nothing.
+use Prim.Native.Nat.{ℕ, _+_, _≤_, _<_}
+use mathlib.Core.Path.{_≡_, refl}
+use native.Mathlib.Omega.{arith}
+use Rattle.reading.specs.Script.{Span, Range, Forest, tree}
+use Rattle.reading.specs.Answer.{size}
+use Rattle.demands.proofs.Nested.{end, Nested, next, forward}
+
+-- what a descriptor says of its place: its range, and its parent's index
+pub record Row : Type 0 where
+  pub span : Span
+  pub parent : ℕ
+
+-- one range lies inside another
+abbrev pub Inside : Span → Span → Type 0
+Inside x y = (y .start ≤ x .start) × (end x ≤ end y)
+
+-- in a forest whose first index is j and whose parent is p, the descriptor with index i is this one
+pub data In : Forest → (j p i : ℕ) → Row → Type 0 where
+  this : {r : Range} {inner after : Forest} {j p i : ℕ} → i ≡ j → In (tree r inner after) j p i (record { span = r .span; parent = p })
+  within : {r : Range} {inner after : Forest} {j p i : ℕ} {x : Row} → In inner (j + 1) j i x → In (tree r inner after) j p i x
+  behind : {r : Range} {inner after : Forest} {j p i : ℕ} {x : Row} → In after (j + 1 + size inner) p i x → In (tree r inner after) j p i x
+
+-- its parent is p, or a descriptor before it
+pub data Parent (p j i q : ℕ) : Type 0 where
+  own : q ≡ p → Parent p j i q
+  before : j ≤ q → q < i → Parent p j i q
+
+pub record Parted (f : Forest) (j p i : ℕ) (x : Row) : Type 0 where
+  pub first : j ≤ i
+  pub last : i < j + size f
+  pub parent : Parent p j i (x .parent)
+
+pub parted : {f : Forest} {j p i : ℕ} {x : Row} → In f j p i x → Parted f j p i x
+unfolding size
+parted (this e) = record { first = omega arith; last = omega arith; parent = own refl }
+parted {p = p} {i = i} {x = x} (within {j = j} m) = let h = parted m in record { first = omega arith; last = omega arith; parent = go (h .first) (h .parent) }
+  where
+    go : j + 1 ≤ i → Parent j (j + 1) i (x .parent) → Parent p j i (x .parent)
+    go k (own e) = before (omega arith) (omega arith)
+    go k (before u v) = before (omega arith) v
+parted {p = p} {i = i} {x = x} (behind {inner = inner} {j = j} m) = let h = parted m in record { first = omega arith; last = omega arith; parent = go (h .parent) }
+  where
+    go : Parent p (j + 1 + size inner) i (x .parent) → Parent p j i (x .parent)
+    go (own e) = own e
+    go (before u v) = before (omega arith) v
+
+-- ---- by the forest
+
+in-bounds : {f : Forest} {j p i lo hi : ℕ} {x : Row} → Nested lo hi f → In f j p i x → (lo ≤ x .span .start) × (end (x .span) ≤ hi)
+in-bounds (next h i j) (this e) = let k = forward j in (h, omega arith)
+in-bounds (next h i j) (within m) = let b = in-bounds i m in let k = forward j in (omega (arith, b .0), omega (arith, b .1))
+in-bounds (next h i j) (behind m) = let b = in-bounds j m in let k = forward i in (omega (arith, b .0), b .1)
+
+-- p is none of the forest's own indices
+pub data Outside (f : Forest) (j p : ℕ) : Type 0 where
+  under : p < j → Outside f j p
+  over : j + size f ≤ p → Outside f j p
+
+own-outside : {f : Forest} {j p k : ℕ} {y : Row} → Outside f j p → In f j p k y → p ≡ k → ⊥
+own-outside (under h) m e = let z = parted m in omega (arith, z .first)
+own-outside (over h) m e = let z = parted m in omega (arith, z .last)
+
+-- the parent of what is inside the first range of a forest
+inner-parent : {f : Forest} {j i : ℕ} {x : Row} → In f (j + 1) j i x → (j ≤ x .parent) × (x .parent < j + 1 + size f)
+inner-parent {f} {j} {i} {x} m = let z = parted m in go (z .last) (z .parent)
+  where
+    go : i < j + 1 + size f → Parent j (j + 1) i (x .parent) → (j ≤ x .parent) × (x .parent < j + 1 + size f)
+    go l (own e) = (omega arith, omega arith)
+    go l (before u v) = (omega arith, omega arith)
+
+-- the parent of what is behind it
+after-parent : {r : Range} {inner after : Forest} {j p i : ℕ} {x : Row} → Outside (tree r inner after) j p → In after (j + 1 + size inner) p i x → j ≤ x .parent → x .parent < j + 1 + size inner → ⊥
+unfolding size
+after-parent {r} {inner} {after} {j} {p} {i} {x} o m h k = go o (parted m .parent)
+  where
+    go : Outside (tree r inner after) j p → Parent p (j + 1 + size inner) i (x .parent) → ⊥
+    go (under a) (own e) = omega arith
+    go (over a) (own e) = omega arith
+    go o (before u v) = omega arith
+
+after-outside : {r : Range} {inner after : Forest} {j p : ℕ} → Outside (tree r inner after) j p → Outside after (j + 1 + size inner) p
+unfolding size
+after-outside (under h) = under (omega arith)
+after-outside (over h) = over (omega arith)
+
+pub parent-holds : {f : Forest} {j p i k lo hi : ℕ} {x y : Row} → Nested lo hi f → Outside f j p → In f j p i x → In f j p k y → x .parent ≡ k → Inside (x .span) (y .span)
+parent-holds (next h a b) o (this e) m z = absurd (own-outside o m z)
+parent-holds (next h a b) o (within m) (this e) z = in-bounds a m
+parent-holds (next h a b) o (within m) (within n) z = parent-holds a (under (omega arith)) m n z
+parent-holds (next h a b) o (within m) (behind n) z = let u = inner-parent m in let v = parted n in absurd (omega (arith, u .1, v .first))
+parent-holds (next h a b) o (behind m) (this e) z = absurd (after-parent o m (omega arith) (omega arith))
+parent-holds (next h a b) o (behind m) (within n) z = let v = parted n in absurd (after-parent o m (omega (arith, v .first)) (omega (arith, v .last)))
+parent-holds (next h a b) o (behind m) (behind n) z = parent-holds b (after-outside o) m n z
+
+pub siblings-apart : {f : Forest} {j p i k lo hi : ℕ} {x y : Row} → Nested lo hi f → Outside f j p → In f j p i x → In f j p k y → i < k → x .parent ≡ y .parent → end (x .span) ≤ y .span .start
+unfolding size
+siblings-apart (next h a b) o (this e) (this f) l z = absurd (omega arith)
+siblings-apart (next {inner = inner} {after} h a b) o (this e) (within m) l z = let u = inner-parent m in absurd (go o (u .0) (u .1) z)
+  where
+    go : {r : Range} {j p q : ℕ} → Outside (tree r inner after) j p → j ≤ q → q < j + 1 + size inner → p ≡ q → ⊥
+    go (under h) u v e = omega arith
+    go (over h) u v e = omega arith
+siblings-apart (next h a b) o (this e) (behind m) l z = in-bounds b m .0
+siblings-apart (next h a b) o (within m) (this e) l z = let v = parted m in absurd (omega (arith, v .first))
+siblings-apart (next h a b) o (within m) (within n) l z = siblings-apart a (under (omega arith)) m n l z
+siblings-apart (next h a b) o (within m) (behind n) l z = let u = in-bounds a m in let v = in-bounds b n in omega (arith, u .1, v .0)
+siblings-apart (next h a b) o (behind m) (this e) l z = let v = parted m in absurd (omega (arith, v .first))
+siblings-apart (next h a b) o (behind m) (within n) l z = let u = parted m in let v = parted n in absurd (omega (arith, u .first, v .last))
+siblings-apart (next h a b) o (behind m) (behind n) l z = siblings-apart b (after-outside o) m n l z
