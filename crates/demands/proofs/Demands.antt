@@ -4,7 +4,13 @@ use Prim.Native.Nat.{ℕ, _*_, _/_, _≤_, _<_}
 use mathlib.Core.Path.{_≡_}
 use mathlib.Core.List.{List}
 use lib.ListN.{length, drop}
-use Rattle.reading.specs.Answer.{nobody, no-header, one, run}
+use mathlib.Core.Bool.{true}
+use Rattle.reading.specs.Script.{Forest, Found}
+use Rattle.reading.specs.Answer.{limit, nobody, size, no-header, one, run}
+use Rattle.reading.proofs.Holding.{read-here}
+use Rattle.reading.proofs.Descriptors.{descriptor, Read-as, stored-reading-accepts}
+use Rattle.demands.proofs.Accepted.{Reading, Answers, one-reading, Allowed, Accepted, accepted-reads, reading-answers, reading-fits}
+use Rattle.demands.proofs.Fielded.{Fields-are, one-fields, run-fields}
 use Rattle.demands.proofs.Quarter.{one-quartered, run-quartered, one-room, run-room}
 use Rattle.demands.proofs.Kept.{one-kept, run-kept}
 use Rattle.demands.proofs.Nested.{end}
@@ -42,6 +48,42 @@ module _ (s w : List ℕ) where
 
   pub run-length-stays : length (run s w .store) ≡ length w
   run-length-stays = run-kept s w .words
+
+  -- ---- demand 2: one datagram (`Accepted`; that the grammar knows no limit of depth, `Limit`)
+
+  -- code 0 only where the grammar reads s, with no record deeper than 8; header, descriptors, position and steps are that reading's
+  pub accepted-is-read : one s w .code ≡ 0 → Accepted s w (one s w)
+  accepted-is-read = accepted-reads s w
+
+  -- and wherever it does, if the store has room
+  pub read-is-accepted : length s ≤ limit → {f : Found} {bytes items : ℕ} → Allowed s f bytes items → size (f .ranges) ≤ length w / 6 → Answers w f bytes items (one s w)
+  read-is-accepted = reading-answers s w
+
+  -- no input has two readings, however deep
+  pub only-reading : {f g : Found} {n m k l : ℕ} → Reading s f n k → Reading s g m l → (f ≡ g) × (n ≡ m) × (k ≡ l)
+  only-reading = one-reading s
+
+  -- as one equivalence, with a store for a quarter of the length
+  pub accepted-exactly : length s ≤ limit → length s / 4 ≤ length w / 6
+      → (one s w .code ≡ 0 → (f : Found) × (bytes items : ℕ) × Allowed s f bytes items) × ((f : Found) × (bytes items : ℕ) × Allowed s f bytes items → one s w .code ≡ 0)
+  accepted-exactly short wide =
+      (λ z. let a = accepted-reads s w z in (a .found, a .bytes, a .items, a .allowed), λ (f, bytes, items, r). reading-answers s w short r (reading-fits s w short r wide) .code)
+
+  -- ---- demand 2: the fields of each descriptor that is read here (`Fielded`)
+
+  -- field reading gives what the grammar reads at the start of the descriptor's range
+  pub fields-are-read : one s w .code ≡ 0 → (i : ℕ) → i < one s w .needed → read-here (descriptor (one s w .store) i .kind) (descriptor (one s w .store) i .format) ≡ true
+      → Fields-are s (descriptor (one s w .store) i)
+  fields-are-read = one-fields s w
+
+  pub run-fields-are-read : run s w .code ≡ 0 → (i : ℕ) → i < run s w .needed → read-here (descriptor (run s w .store) i .kind) (descriptor (run s w .store) i .format) ≡ true
+      → Fields-are s (descriptor (run s w .store) i)
+  run-fields-are-read = run-fields s w
+
+  -- and these are the values of the whole reading: with them, what lies in the range is what it has inside
+  pub fields-are-the-readings : one s w .code ≡ 0 → (i : ℕ) → i < one s w .needed → read-here (descriptor (one s w .store) i .kind) (descriptor (one s w .store) i .format) ≡ true
+      → (inner : Forest) × Read-as s (descriptor (one s w .store) i) inner
+  fields-are-the-readings = stored-reading-accepts s w
 
   -- ---- demand 3: the bounds, accepted or refused (`Quarter`); a run's figures are sums over every datagram tried
 

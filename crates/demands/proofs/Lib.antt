@@ -4,4 +4,8 @@ pub mod Kept
 pub mod Nested
 pub mod Siblings
 pub mod Placed
+pub mod Depths
+pub mod Limit
+pub mod Accepted
+pub mod Fielded
 pub mod Demands

@@ -163,7 +163,7 @@ datagram-nested limit s p a q h e =
     let w = split (fields-out header s p) _ (sym (datagram-is limit s p) ∙ e) in
     let i = header-on s p h (w .first) in
     let v = split (times (last-number (w .value)) (follow (sample limit)) s (w .place)) _ (w .second) in
-    moved (v .second) (spanned 0 0 0 (sooner (p .at) (omega (arith, i .0)) (orderly-times (sample limit) (orderly-sample limit) (last-number (w .value)) s (w .place) (v .value) (v .place) (i .1) (v .first))))
+    moved {a = whole (p .at) (w .value) (v .value) (v .place)} (v .second) (spanned 0 0 0 (sooner (p .at) (omega (arith, i .0)) (orderly-times (sample limit) (orderly-sample limit) (last-number (w .value)) s (w .place) (v .value) (v .place) (i .1) (v .first))))
 
 pub run-nested : (fuel : ℕ) → Orderly (datagrams fuel)
 unfolding datagrams tried

@@ -1,0 +1,181 @@
+-- The grammar knows no limit of depth: what it reads with n levels has no record deeper than n, and where it has none deeper than m it is
+-- read with m levels just so. By the layouts. Assumes nothing.
+use Prim.Native.Nat.{ℕ, zero, suc, _+_, _-_, _≤_, _<_}
+use mathlib.Core.Path.{_≡_, refl, sym, ap, _∙_, subst}
+use mathlib.Core.Bool.{Bool, true, false, cond}
+use mathlib.Core.List.{List, [], _∷_}
+use native.Mathlib.Omega.{arith}
+use lib.Dec.{eqb}
+use lib.ListN.{length}
+use Rattle.reading.specs.Script.{Value, Found, nothing, Item, Script, give, here, item, repeat}
+use Rattle.reading.specs.Grammar.{Many, Is}
+use Rattle.reading.specs.Layout.{num, Field, plain, mac, addr, list, segments, address-of, run-of, field, fields, Row, _⟼_, _⟼_each_, last-number, opened, ranged, between, framed, pdu, flows, flow, counter, samples, sample, header, datagram-to}
+use Rattle.demands.proofs.Depths.{Shallow, none, also, joined, front, back, inner-shallow, own-depth}
+
+-- of what `a` is read as: it is no deeper than n, and where it is no deeper than m, `b` is read as the same
+record Both (n m : ℕ) (a b : Script) : Type 0 where
+  says : (o : ℕ) (u : List ℕ) (f : Found) (k : ℕ) → Is a o u f k → Shallow n (f .ranges) × (Shallow m (f .ranges) → Is b o u f k)
+
+two : {n m : ℕ} {a b c d : Script} (t : Bool) → Both n m a b → Both n m c d → Both n m (cond t a c) (cond t b d)
+two true h g = h
+two false h g = g
+
+module _ (n m : ℕ) where
+  found-as : {f a : Found} → f ≡ a → Shallow n (a .ranges) → Shallow n (f .ranges)
+  found-as e h = subst (λ (b : Found). Shallow n (b .ranges)) (sym e) h
+
+  as-found : {f a : Found} → f ≡ a → Shallow m (f .ranges) → Shallow m (a .ranges)
+  as-found e h = subst (λ (b : Found). Shallow m (b .ranges)) e h
+
+  both-none : Both n m (give nothing) (give nothing)
+  unfolding Is
+  both-none = record { says = λ o u f k (e, g, l). (found-as g none, λ z. (e, g, l)) }
+
+  both-item : (i : Item) {a b : Value → Script} → ((v : Value) → Both n m (a v) (b v)) → Both n m (item i a) (item i b)
+  unfolding Is
+  both-item i h = record { says = λ o u f k (x, y, v, l, e, en, ix, iy). let r = h v .says _ _ _ _ iy in (r .0, λ z. (x, y, v, l, e, en, ix, r .1 z)) }
+
+  both-run : (body : Script) {a b : Value → Script} → ((v : Value) → Both n m (a v) (b v)) → Both n m (run-of body a) (run-of body b)
+  unfolding Is run-of
+  both-run body h = record {
+    says = λ o u f k (x, y, v, l, e, en, ix, (x′, y′, c, i, j, e′, en′, many, iy)).
+        let r = h _ .says _ _ _ _ iy in
+        (r .0, λ z. (x, y, v, l, e, en, ix, (x′, y′, c, i, j, e′, en′, many, r .1 z)));
+  }
+
+  both-address : (t : ℕ) {a b : Value → Script} → ((v : Value) → Both n m (a v) (b v)) → Both n m (address-of t a) (address-of t b)
+  unfolding address-of
+  both-address zero h = h _
+  both-address (suc zero) h = both-item _ (λ c. h _)
+  both-address (suc (suc t)) h = both-item _ (λ c. h _)
+
+  both-field : (g : Field) {a b : Value → Script} → ((v : Value) → Both n m (a v) (b v)) → Both n m (field g a) (field g b)
+  unfolding field
+  both-field (plain i) h = both-item i h
+  both-field mac h = both-item _ (λ c. h _)
+  both-field addr h = both-item _ (λ t. both-address (num t) h)
+  both-field list h = both-run _ h
+  both-field segments h = both-run _ h
+
+  both-fields : (l : List Field) {a b : List Value → Script} → ((vs : List Value) → Both n m (a vs) (b vs)) → Both n m (fields l a) (fields l b)
+  unfolding fields
+  both-fields [] h = h []
+  both-fields (g ∷ rest) h = both-field g (λ v. both-fields rest (λ vs. h (v ∷ vs)))
+
+  -- so many, end to end
+  both-many : {a b : Script} → Both n m a b → (c o : ℕ) (u : List ℕ) (f : Found) (k : ℕ) → Many c (Is a) o u f k → Shallow n (f .ranges) × (Shallow m (f .ranges) → Many c (Is b) o u f k)
+  unfolding Many
+  both-many h zero o u f k (e, g, l) = (found-as g none, λ z. (e, g, l))
+  both-many h (suc c) o u f k (x, y, g, g′, i, j, e, ef, en, px, py) =
+      let r = h .says _ _ _ _ px in
+      let t = both-many h c _ _ _ _ py in
+      (found-as ef (joined (r .0) (t .0)), λ z. (x, y, g, g′, i, j, e, ef, en, r .1 (front (g .ranges) (g′ .ranges) (as-found ef z)), t .1 (back (g .ranges) (g′ .ranges) (as-found ef z))))
+
+  both-each : (c : ℕ) {a b : Script} → Both n m a b → Both n m (repeat c a (λ r. give r)) (repeat c b (λ r. give r))
+  unfolding Is
+  both-each c h = record {
+    says = λ o u f k (x, y, a, i, j, e, en, many, (ey, ef, ej)).
+        let r = both-many h c _ _ _ _ many in
+        (found-as ef (r .0), λ z. (x, y, a, i, j, e, en, r .1 (as-found ef z), (ey, ef, ej)));
+  }
+
+  -- ---- frames
+
+  both-framed : (kind depth : ℕ) {a b : ℕ → Script} → (kind ≡ 2 → depth ≤ n) → ((f : ℕ) → Both n m (a f) (b f)) → Both n m (framed kind depth a) (framed kind depth b)
+  unfolding Is
+  both-framed kind depth d h = record {
+    says = λ o u f k (x, y, v, l, e, en, ix, (x′, y′, s, inner, rest, a, i, j, e′, en′, q, es, ia, (ey, ef, ej))).
+        let r = h (num v) .says _ _ _ _ ia in
+        (found-as ef (also d (r .0) none), λ z. (x, y, v, l, e, en, ix, (x′, y′, s, inner, rest, a, i, j, e′, en′, q, es, r .1 (inner-shallow (as-found ef z)), (ey, ef, ej))));
+  }
+
+  both-pdu : (depth : ℕ) {a b : Script} → Both n m a b → Both n m (pdu depth a) (pdu depth b)
+  unfolding Is
+  both-pdu depth h = record {
+    says = λ o u f k (x, y, v, l, e, en, ix, (x′, y′, a, i, j, e′, en′, many, (ey, ef, ej))).
+        let r = both-many h (num v) _ _ _ _ many in
+        (found-as ef (also (λ z. absurd (omega arith)) (r .0) none), λ z. (x, y, v, l, e, en, ix, (x′, y′, a, i, j, e′, en′, r .1 (inner-shallow (as-found ef z)), (ey, ef, ej))));
+  }
+
+  data Rows : List Row → List Row → Type 0 where
+    over : Rows [] []
+    flat : {g : ℕ} {l : List Field} {r t : List Row} → Rows r t → Rows ((g ⟼ l) ∷ r) ((g ⟼ l) ∷ t)
+    counts : {g : ℕ} {l : List Field} {a b : Script} {r t : List Row} → Both n m a b → Rows r t → Rows ((g ⟼ l each a) ∷ r) ((g ⟼ l each b) ∷ t)
+
+  both-opened : {r t : List Row} → Rows r t → (f : ℕ) → Both n m (opened r f) (opened t f)
+  unfolding opened
+  both-opened over f = both-none
+  both-opened (flat {g} {l} t) f = two (eqb g f) (both-fields l (λ vs. both-none)) (both-opened t f)
+  both-opened (counts {g} {l} h t) f = two (eqb g f) (both-fields l (λ vs. both-each (last-number vs) h)) (both-opened t f)
+
+  both-flows : {a b : Script} → Both n m a b → Rows (flows a) (flows b)
+  unfolding flows
+  both-flows h =
+      flat (flat (flat (flat (flat (flat (flat (flat (flat (flat (flat (flat (flat (flat (flat (flat (flat (flat (flat (counts h over)))))))))))))))))))
+
+-- ---- records, by the levels that are left
+
+-- a record at depth d, by what its PDUs hold
+abbrev record-of : ℕ → Script → Script
+record-of d a = framed 2 d (opened (flows (pdu d a)))
+
+both-record : (n m d e : ℕ) {a b : Script} → d ≤ n → e ≡ d → Both n m a b → Both n m (record-of d a) (record-of e b)
+both-record n m d e {a} {b} l z h =
+    subst (λ (c : ℕ). Both n m (record-of d a) (record-of c b)) (sym z) (both-framed n m 2 d (λ k. l) (both-opened n m (both-flows n m (both-pdu n m d h))))
+
+-- which is too deep
+too-deep : (n m d : ℕ) (a b : Script) → Both n n (record-of d a) (record-of d a) → m < d → Both n m (record-of d a) b
+unfolding Is
+too-deep n m d a b w l =
+    record { says = λ o u f k h. (w .says o u f k h .0, λ z. absurd (go o u f k h z)) }
+  where
+    go : (o : ℕ) (u : List ℕ) (f : Found) (k : ℕ) → Is (record-of d a) o u f k → Shallow m (f .ranges) → ⊥
+    go o u f k (x, y, v, i, e, en, ix, (x′, y′, s, inner, rest, c, p, q, e′, en′, r, es, ia, (ey, ef, ej))) z =
+        let t : d ≤ m = own-depth (subst (λ (g : Found). Shallow m (g .ranges)) ef z) refl in
+        omega arith
+
+none-left : (n m : ℕ) (b : Script) → Both n m (flow n zero) b
+unfolding flow Is
+none-left n m b = record { says = λ o u f k h. absurd h }
+
+within-flow : (n left : ℕ) → Both n n (flow n left) (flow n left)
+unfolding flow
+within-flow n zero = none-left n n (flow n zero)
+within-flow n (suc left) = both-record n n (n - left) (n - left) (omega arith) refl (within-flow n left)
+
+-- a record at one depth: `left` of n levels, and `rest` of m
+both-flow : (n m left rest : ℕ) → left ≤ n → rest ≤ m → n - left ≡ m - rest → Both n m (flow n left) (flow m rest)
+unfolding flow
+both-flow n m zero rest i j e = none-left n m (flow m rest)
+both-flow n m (suc left) zero i j e = too-deep n m (n - left) (flow n left) (flow m zero) (within-flow n (suc left)) (omega arith)
+both-flow n m (suc left) (suc rest) i j e = both-record n m (n - left) (m - rest) (omega arith) (omega arith) (both-flow n m left rest (omega arith) (omega arith) (omega arith))
+
+-- ---- a datagram
+
+both-sample : (n m : ℕ) → Both n m (sample n) (sample m)
+unfolding samples
+both-sample n m =
+    let f : Both n m (flow n n) (flow m m) = both-flow n m n m (omega arith) (omega arith) (omega arith) in
+    let c : Both n m counter counter = both-framed n m 3 1 (λ z. absurd (omega arith)) (both-opened n m over) in
+    both-framed n m 1 0 (λ z. absurd (omega arith)) (both-opened n m (counts f (counts c (counts f (counts c (counts f over))))))
+
+both-datagram : (n m : ℕ) → Both n m (datagram-to n) (datagram-to m)
+unfolding Is datagram-to
+both-datagram n m = record { says = λ o u f k h. both-fields n m header (λ vs. samples-of o vs) .says o u f k h }
+  where
+    samples-of : (a : ℕ) (vs : List Value) → Both n m
+        (repeat (last-number vs) (sample n) (λ r. here (λ e. give (record { values = vs; ranges = ranged 0 0 0 (between a e) (r .ranges) }))))
+        (repeat (last-number vs) (sample m) (λ r. here (λ e. give (record { values = vs; ranges = ranged 0 0 0 (between a e) (r .ranges) }))))
+    samples-of a vs = record {
+      says = λ o u f k (x, y, b, i, j, e, en, many, (ey, ef, ej)).
+          let r = both-many n m (both-sample n m) (last-number vs) _ _ _ _ many in
+          (found-as n m ef (also (λ z. absurd (omega arith)) (r .0) none), λ z. (x, y, b, i, j, e, en, r .1 (inner-shallow (as-found n m ef z)), (ey, ef, ej)));
+    }
+
+-- a reading with n levels has no record deeper than n
+pub no-deeper : (n o : ℕ) (b : List ℕ) (f : Found) (k : ℕ) → Is (datagram-to n) o b f k → Shallow n (f .ranges)
+no-deeper n o b f k h = both-datagram n n .says o b f k h .0
+
+-- and if it has none deeper than m, it is a reading with m levels
+pub same-reading : (n m o : ℕ) (b : List ℕ) (f : Found) (k : ℕ) → Is (datagram-to n) o b f k → Shallow m (f .ranges) → Is (datagram-to m) o b f k
+same-reading n m o b f k h z = both-datagram n m .says o b f k h .1 z
