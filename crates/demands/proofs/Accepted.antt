@@ -41,7 +41,7 @@ pub record Answers (w : List ℕ) (f : Found) (bytes items : ℕ) (a : Answer) :
   pub store : a .store ≡ rows 0 nobody (f .ranges) ++ drop (6 * size (f .ranges)) w
 
 -- with so many levels, the cursor gives a reading that is no deeper
-given : (m : ℕ) (s : List ℕ) {f : Found} {n k : ℕ} → Reading s f n k → Shallow m (f .ranges) → follow (datagram-to m) s (place 0 0) ≡ got f (place n k)
+pub given : (m : ℕ) (s : List ℕ) {f : Found} {n k : ℕ} → Reading s f n k → Shallow m (f .ranges) → follow (datagram-to m) s (place 0 0) ≡ got f (place n k)
 given m s {f} {n} {k} r z =
     complete (datagram-to m) s (r .read) (r .rest) f 0 0 k (same-reading (r .levels) m 0 (r .read) f k (r .is) z) (record { there = r .joined; fits = rw (r .joined, length-append) (omega arith) })
     ∙ ap (λ (i : ℕ). got f (place i (0 + k))) (zero-add _ ∙ r .long) ∙ ap (λ (i : ℕ). got f (place n i)) (zero-add k)
@@ -62,7 +62,7 @@ pub record Allowed (s : List ℕ) (f : Found) (bytes items : ℕ) : Type 0 where
   pub shallow : Shallow depth-limit (f .ranges)
 
 module _ (s : List ℕ) where
-  accepted-allowed : (a : Found) (q : Place) → follow datagram s (from 0) ≡ got a q → Allowed s a (q .at) (q .steps)
+  pub accepted-allowed : (a : Found) (q : Place) → follow datagram s (from 0) ≡ got a q → Allowed s a (q .at) (q .steps)
   accepted-allowed a q e =
       let r = accepted-is-read s a (q .at) (q .steps) e in
       record {
@@ -71,7 +71,7 @@ module _ (s : List ℕ) where
       }
 
   -- the answer to an accepted reading
-  stored-answers : (w : List ℕ) (a : Found) (q : Place) → size (a .ranges) ≤ room w → Answers w a (q .at) (q .steps) (stored header-of (got a q) w)
+  pub stored-answers : (w : List ℕ) (a : Found) (q : Place) → size (a .ranges) ≤ room w → Answers w a (q .at) (q .steps) (stored header-of (got a q) w)
   unfolding stored
   stored-answers w a q h = rw (le-leb (size (a .ranges)) (room w) h) (record { code = refl; at = refl; steps = refl; needed = refl; head = refl; store = refl })
 

@@ -6,11 +6,14 @@ use mathlib.Core.List.{List}
 use lib.ListN.{length, drop}
 use mathlib.Core.Bool.{true}
 use Rattle.reading.specs.Script.{Forest, Found}
-use Rattle.reading.specs.Answer.{limit, nobody, size, no-header, one, run}
+use Rattle.reading.specs.Layout.{datagram}
+use Rattle.reading.specs.Answer.{limit, nobody, size, no-header, refused, one, run}
 use Rattle.reading.proofs.Holding.{read-here}
 use Rattle.reading.proofs.Descriptors.{descriptor, Read-as, stored-reading-accepts}
 use Rattle.demands.proofs.Accepted.{Reading, Answers, one-reading, Allowed, Accepted, accepted-reads, reading-answers, reading-fits}
 use Rattle.demands.proofs.Fielded.{Fields-are, one-fields, run-fields}
+use Rattle.demands.proofs.Stops.{Stops}
+use Rattle.demands.proofs.Itemised.{Itemised, one-itemised, long-refused, fault-refused, one-fault, no-fault}
 use Rattle.demands.proofs.Quarter.{one-quartered, run-quartered, one-room, run-room}
 use Rattle.demands.proofs.Kept.{one-kept, run-kept}
 use Rattle.demands.proofs.Nested.{end}
@@ -84,6 +87,25 @@ module _ (s w : List ℕ) where
   pub fields-are-the-readings : one s w .code ≡ 0 → (i : ℕ) → i < one s w .needed → read-here (descriptor (one s w .store) i .kind) (descriptor (one s w .store) i .format) ≡ true
       → (inner : Forest) × Read-as s (descriptor (one s w .store) i) inner
   fields-are-the-readings = stored-reading-accepts s w
+
+  -- ---- demand 3: steps are items; and the first fault (`Itemised`, by `Stops`)
+
+  -- every answer is one of four: too long, stopped after so many items with why the next is none, read whole without room, or accepted
+  pub steps-are-items : Itemised s w (one s w)
+  steps-are-items = one-itemised s w
+
+  -- code 1 comes before all; then the first fault is answered, and there is one
+  pub too-long-first : limit < length s → one s w ≡ refused 1 0 0 0 w
+  too-long-first = long-refused s w
+
+  pub first-fault-answered : {c i n : ℕ} → length s ≤ limit → Stops datagram 0 s c i n → one s w ≡ refused c i n 0 w
+  first-fault-answered = fault-refused s w
+
+  pub first-fault-only : {c i n d j m : ℕ} → Stops datagram 0 s c i n → Stops datagram 0 s d j m → (c ≡ d) × (i ≡ j) × (n ≡ m)
+  first-fault-only = one-fault s w
+
+  pub fault-or-reading : {c i n bytes items : ℕ} {f : Found} → Stops datagram 0 s c i n → Allowed s f bytes items → ⊥
+  fault-or-reading = no-fault s w
 
   -- ---- demand 3: the bounds, accepted or refused (`Quarter`); a run's figures are sums over every datagram tried
 

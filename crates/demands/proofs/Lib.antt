@@ -8,4 +8,11 @@ pub mod Depths
 pub mod Limit
 pub mod Accepted
 pub mod Fielded
+pub mod Stops
+pub mod Pieces
+pub mod Enclosed
+pub mod Stopped
+pub mod Stopping
+pub mod Halting
+pub mod Itemised
 pub mod Demands

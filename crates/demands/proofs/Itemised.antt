@@ -1,0 +1,76 @@
+-- Demand 3's first sentence, for one datagram: the steps are the items of the written reading up to where it stopped. And the first fault: code 1
+-- before all, then the first item that is none, and 9 after all. Assumes nothing.
+use Prim.Native.Nat.{ℕ, _+_, _≤_, _<_}
+use mathlib.Core.Path.{_≡_, refl, sym, ap, _∙_, subst}
+use mathlib.Core.Bool.{Bool, true, false, cond}
+use mathlib.Core.List.{List}
+use native.Mathlib.Omega.{arith}
+use native.Mathlib.Nat.{zero-add}
+use borrow.Author.Tests.{le-leb, lt-leb, leb-true, leb-false}
+use lib.Dec.{leb}
+use lib.ListN.{length, drop}
+use Rattle.reading.specs.Script.{Found}
+use Rattle.reading.specs.Cursor.{Place, Out, got, stop, follow}
+use Rattle.reading.specs.Layout.{datagram}
+use Rattle.reading.specs.Answer.{limit, limited, from, size, room, header-of, Answer, refused, stored, one}
+use Rattle.reading.proofs.Items.{never}
+use Rattle.reading.proofs.Stands.{place}
+use Rattle.demands.proofs.Accepted.{Allowed, Answers, given, accepted-allowed, stored-answers}
+use Rattle.demands.proofs.Stops.{Stops}
+use Rattle.demands.proofs.Stopped.{stopped}
+use Rattle.demands.proofs.Halting.{halting}
+
+-- what each answer to s and w says of the reading of s
+pub data Itemised (s w : List ℕ) (a : Answer) : Type 0 where
+  -- s is too long: no item is read
+  too-long : limit < length s → a ≡ refused 1 0 0 0 w → Itemised s w a
+  -- the reading stops at a fault: the steps are the items before it
+  faulty : length s ≤ limit → (c i n : ℕ) → Stops datagram 0 s c i n → a ≡ refused c i n 0 w → Itemised s w a
+  -- there is a whole reading, for which the store has no room: the steps are its items, the descriptors needed are its ranges
+  no-room : length s ≤ limit → (f : Found) (bytes items : ℕ) → Allowed s f bytes items → room w < size (f .ranges) → a ≡ refused 9 0 items (size (f .ranges)) w → Itemised s w a
+  -- there is one, and the answer is that reading's
+  whole : length s ≤ limit → (f : Found) (bytes items : ℕ) → Allowed s f bytes items → Answers w f bytes items a → Itemised s w a
+
+module _ (s w : List ℕ) where
+  short-itemised : length s ≤ limit → (o : Out Found) → follow datagram s (from 0) ≡ o → Itemised s w (stored header-of o w)
+  unfolding stored
+  short-itemised h (stop c i n) e =
+      let r = stopped datagram s (from 0) c i n (omega arith) e in
+      let m : r .items ≡ n = sym (r .steps ∙ zero-add (r .items)) in
+      faulty h c i n (subst (λ (k : ℕ). Stops datagram 0 s c i k) m (r .stops)) refl
+  short-itemised h (got f q) e = go (leb (size (f .ranges)) (room w)) refl
+    where
+      go : (b : Bool) → leb (size (f .ranges)) (room w) ≡ b → Itemised s w (stored header-of (got f q) w)
+      go true t = whole h f (q .at) (q .steps) (accepted-allowed s f q e) (stored-answers s w f q (leb-true _ _ t))
+      go false t = no-room h f (q .at) (q .steps) (accepted-allowed s f q e) (leb-false _ _ t) (rw t)
+
+  pub one-itemised : Itemised s w (one s w)
+  unfolding one
+  one-itemised = go (leb (length s) limit) refl
+    where
+      go : (b : Bool) → leb (length s) limit ≡ b → Itemised s w (cond b (stored header-of (follow datagram s (from 0)) w) (refused 1 0 0 0 w))
+      go true t = short-itemised (leb-true _ _ t) (follow datagram s (from 0)) refl
+      go false t = too-long (leb-false _ _ t) refl
+
+  -- ---- and each of these is answered just so
+
+  -- code 1 before all
+  pub long-refused : limit < length s → one s w ≡ refused 1 0 0 0 w
+  unfolding one
+  long-refused h = rw (lt-leb (length s) limit h)
+
+  stops-there : {c i n : ℕ} → Stops datagram 0 s c i n → follow datagram s (from 0) ≡ stop c i n
+  stops-there {c} {i} {n} t = halting t s 0 (record { there = refl; fits = omega arith }) ∙ ap (λ (k : ℕ). stop c i k) (zero-add n)
+
+  -- then the first fault
+  pub fault-refused : {c i n : ℕ} → length s ≤ limit → Stops datagram 0 s c i n → one s w ≡ refused c i n 0 w
+  unfolding one stored
+  fault-refused h t = rw (le-leb (length s) limit h, stops-there t)
+
+  -- which is one, with one number of items before it
+  pub one-fault : {c i n d j m : ℕ} → Stops datagram 0 s c i n → Stops datagram 0 s d j m → (c ≡ d) × (i ≡ j) × (n ≡ m)
+  one-fault {c} {i} {n} {d} {j} {m} t u = let e : _≡_ {A = Out Found} (stop c i n) (stop d j m) = sym (stops-there t) ∙ stops-there u in (cc, cc, cc)
+
+  -- and no reading that is allowed has one
+  pub no-fault : {c i n bytes items : ℕ} {f : Found} → Stops datagram 0 s c i n → Allowed s f bytes items → ⊥
+  no-fault t r = never (sym (stops-there t) ∙ given 8 s (r .reading) (r .shallow))
