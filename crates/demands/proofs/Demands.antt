@@ -14,6 +14,8 @@ use Rattle.demands.proofs.Accepted.{Reading, Answers, one-reading, Allo
 use Rattle.demands.proofs.Fielded.{Fields-are, one-fields, run-fields}
 use Rattle.demands.proofs.Stops.{Stops}
 use Rattle.demands.proofs.Itemised.{Itemised, one-itemised, long-refused, fault-refused, one-fault, no-fault}
+use Rattle.demands.proofs.Tries.{Run, Run-stops}
+use Rattle.demands.proofs.RunItemised.{Run-answers, Run-itemised, run-itemised, Run-accepted, run-accepts, run-answered, run-refused, run-too-long, one-run}
 use Rattle.demands.proofs.Quarter.{one-quartered, run-quartered, one-room, run-room}
 use Rattle.demands.proofs.Kept.{one-kept, run-kept}
 use Rattle.demands.proofs.Nested.{end}
@@ -72,6 +74,18 @@ module _ (s w : List ℕ) where
   accepted-exactly short wide =
       (λ z. let a = accepted-reads s w z in (a .found, a .bytes, a .items, a .allowed), λ (f, bytes, items, r). reading-answers s w short r (reading-fits s w short r wide) .code)
 
+  -- ---- demand 2: a run, over each datagram tried (`Tries` says what a run is, `Tried` and `RunItemised` that it is answered)
+
+  -- code 0 only where there is a run by the grammar: datagrams read one after another, and then the end, or one that stops with code 2
+  pub run-accepted-is-read : run s w .code ≡ 0 → Run-accepted s w (run s w)
+  run-accepted-is-read = run-accepts s w
+
+  pub run-read-is-accepted : {g : Forest} {end n : ℕ} → length s ≤ limit → Run s 0 g end n → size g ≤ length w / 6 → Run-answers w g end n (run s w)
+  run-read-is-accepted = run-answered s w
+
+  pub only-run : {g h : Forest} {end n last m : ℕ} → Run s 0 g end n → Run s 0 h last m → (g ≡ h) × (end ≡ last) × (n ≡ m)
+  only-run = one-run s w
+
   -- ---- demand 2: the fields of each descriptor that is read here (`Fielded`)
 
   -- field reading gives what the grammar reads at the start of the descriptor's range
@@ -106,6 +120,16 @@ module _ (s w : List ℕ) where
 
   pub fault-or-reading : {c i n bytes items : ℕ} {f : Found} → Stops datagram 0 s c i n → Allowed s f bytes items → ⊥
   fault-or-reading = no-fault s w
+
+  -- a run likewise: its steps are the items of every datagram tried
+  pub run-steps-are-items : Run-itemised s w (run s w)
+  run-steps-are-items = run-itemised s w
+
+  pub run-too-long-first : limit < length s → run s w ≡ refused 1 0 0 0 w
+  run-too-long-first = run-too-long s w
+
+  pub run-first-fault-answered : {c i n : ℕ} → length s ≤ limit → Run-stops s 0 c i n → run s w ≡ refused c i n 0 w
+  run-first-fault-answered = run-refused s w
 
   -- ---- demand 3: the bounds, accepted or refused (`Quarter`); a run's figures are sums over every datagram tried
 

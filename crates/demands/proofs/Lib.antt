@@ -15,4 +15,7 @@ pub mod Stopped
 pub mod Stopping
 pub mod Halting
 pub mod Itemised
+pub mod Tries
+pub mod Tried
+pub mod RunItemised
 pub mod Demands

@@ -1,0 +1,118 @@
+-- Demands 2 and 3 of what a run answers: code 0 exactly when there is a run by the grammar, whose ranges, end and items are answered; and on a refusal
+-- the items up to the fault. Assumes nothing.
+use Prim.Native.Nat.{ℕ, _+_, _*_, _≤_, _<_}
+use mathlib.Core.Path.{_≡_, refl, sym, ap, _∙_, subst}
+use mathlib.Core.Bool.{Bool, true, false, cond}
+use mathlib.Core.List.{List, _++_}
+use native.Mathlib.Omega.{arith}
+use native.Mathlib.Nat.{zero-add}
+use borrow.Author.Tests.{le-leb, lt-leb, leb-true, leb-false}
+use lib.Dec.{leb}
+use lib.ListN.{length, drop}
+use Rattle.reading.specs.Script.{Value, Forest, Found}
+use Rattle.reading.specs.Cursor.{Place, Out, got, stop}
+use Rattle.reading.specs.Layout.{only}
+use Rattle.reading.specs.Answer.{limit, limited, from, nobody, size, rows, room, no-header, Answer, refused, stored, datagrams, run}
+use Rattle.reading.proofs.Items.{never}
+use Rattle.reading.proofs.Stands.{place}
+use Rattle.reading.proofs.Runs.{run-from}
+use Rattle.demands.proofs.Codes.{Told, fine, fault, run-told}
+use Rattle.demands.proofs.Tries.{Run, Run-stops}
+use Rattle.demands.proofs.Tried.{Tried, done, halted, run-tried, run-read, run-stopped}
+
+-- what is answered where a run of these ranges is accepted into the store w
+pub record Run-answers (w : List ℕ) (g : Forest) (end items : ℕ) (a : Answer) : Type 0 where
+  pub code : a .code ≡ 0
+  pub at : a .at ≡ end
+  pub steps : a .steps ≡ items
+  pub needed : a .needed ≡ size g
+  pub head : a .head ≡ no-header
+  pub store : a .store ≡ rows 0 nobody g ++ drop (6 * size g) w
+
+-- what each answer to s and w says of the run
+pub data Run-itemised (s w : List ℕ) (a : Answer) : Type 0 where
+  too-long : limit < length s → a ≡ refused 1 0 0 0 w → Run-itemised s w a
+  -- a datagram stops with another code than 2: the steps are the items of every datagram tried, up to that fault
+  faulty : length s ≤ limit → (c i n : ℕ) → Run-stops s 0 c i n → a ≡ refused c i n 0 w → Run-itemised s w a
+  no-room : length s ≤ limit → (g : Forest) (end n : ℕ) → Run s 0 g end n → room w < size g → a ≡ refused 9 0 n (size g) w → Run-itemised s w a
+  whole : length s ≤ limit → (g : Forest) (end n : ℕ) → Run s 0 g end n → Run-answers w g end n a → Run-itemised s w a
+
+module _ (w : List ℕ) where
+  stored-run : (a : Found) (q : Place) → size (a .ranges) ≤ room w → Run-answers w (a .ranges) (q .at) (q .steps) (stored (λ _. no-header) (got a q) w)
+  unfolding stored
+  stored-run a q h = rw (le-leb (size (a .ranges)) (room w) h) (record { code = refl; at = refl; steps = refl; needed = refl; head = refl; store = refl })
+
+module _ (s w : List ℕ) where
+  short-itemised : length s ≤ limit → (o : Out Found) → Tried s (from 0) o → Run-itemised s w (stored (λ _. no-header) o w)
+  unfolding stored
+  short-itemised h (stop c i m) (halted n e t) = let z : n ≡ m = sym (e ∙ zero-add n) in faulty h c i m (subst (λ (k : ℕ). Run-stops s 0 c i k) z t) refl
+  short-itemised h (got a q) (done n e t) = go (leb (size (a .ranges)) (room w)) refl (subst (λ (k : ℕ). Run s 0 (a .ranges) (q .at) k) (sym (e ∙ zero-add n)) t)
+    where
+      go : (b : Bool) → leb (size (a .ranges)) (room w) ≡ b → Run s 0 (a .ranges) (q .at) (q .steps) → Run-itemised s w (stored (λ _. no-header) (got a q) w)
+      go true b t = whole h (a .ranges) (q .at) (q .steps) t (stored-run w a q (leb-true _ _ b))
+      go false b t = no-room h (a .ranges) (q .at) (q .steps) t (leb-false _ _ b) (rw b)
+
+  pub run-itemised : Run-itemised s w (run s w)
+  unfolding run
+  run-itemised = go (leb (length s) limit) refl
+    where
+      go : (b : Bool) → leb (length s) limit ≡ b → Run-itemised s w (cond b (stored (λ _. no-header) (datagrams (length s) s (from 0)) w) (refused 1 0 0 0 w))
+      go true b = short-itemised (leb-true _ _ b) (datagrams (length s) s (from 0)) (run-tried (length s) s (from 0) (omega arith) (omega arith))
+      go false b = too-long (leb-false _ _ b) refl
+
+  -- ---- where the code is 0
+
+  pub record Run-accepted (a : Answer) : Type 0 where
+    pub ranges : Forest
+    pub end : ℕ
+    pub items : ℕ
+    pub is : Run s 0 ranges end items
+    pub answers : Run-answers w ranges end items a
+
+  run-zero : (o : Out Found) → Told o → Tried s (from 0) o → stored (λ _. no-header) o w .code ≡ 0 → Run-accepted (stored (λ _. no-header) o w)
+  unfolding stored
+  run-zero (stop c i m) (fault k) t z = absurd (omega arith)
+  run-zero (got a q) fine (done n e t) z = go (leb (size (a .ranges)) (room w)) refl z (subst (λ (k : ℕ). Run s 0 (a .ranges) (q .at) k) (sym (e ∙ zero-add n)) t)
+    where
+      go : (b : Bool) → leb (size (a .ranges)) (room w) ≡ b → stored (λ _. no-header) (got a q) w .code ≡ 0 → Run s 0 (a .ranges) (q .at) (q .steps) → Run-accepted (stored (λ _. no-header) (got a q) w)
+      go true b z t = record { ranges = a .ranges; end = q .at; items = q .steps; is = t; answers = stored-run w a q (leb-true _ _ b) }
+      go false b z t = let x : _≡_ {A = ℕ} 9 0 = rw b at z in absurd (omega arith)
+
+  pub run-accepts : run s w .code ≡ 0 → Run-accepted (run s w)
+  unfolding run
+  run-accepts = go (leb (length s) limit)
+    where
+      go : (b : Bool) → cond b (stored (λ _. no-header) (datagrams (length s) s (from 0)) w) (refused 1 0 0 0 w) .code ≡ 0
+          → Run-accepted (cond b (stored (λ _. no-header) (datagrams (length s) s (from 0)) w) (refused 1 0 0 0 w))
+      go true z = run-zero (datagrams (length s) s (from 0)) (run-told (length s) s (from 0)) (run-tried (length s) s (from 0) (omega arith) (omega arith)) z
+      go false z = absurd (omega arith)
+
+  -- ---- and each of these is answered just so
+
+  run-out : {g : Forest} {end n : ℕ} → Run s 0 g end n → datagrams (length s) s (from 0) ≡ got (only g) (place end n)
+  unfolding run-from
+  run-out {g} {end} {n} t = run-read s 0 t ∙ ap (λ (k : ℕ). got (only g) (place end k)) (zero-add n)
+
+  run-halt : {c i n : ℕ} → Run-stops s 0 c i n → datagrams (length s) s (from 0) ≡ stop c i n
+  unfolding run-from
+  run-halt {c} {i} {n} t = run-stopped s 0 t ∙ ap (λ (k : ℕ). stop c i k) (zero-add n)
+
+  pub run-answered : {g : Forest} {end n : ℕ} → length s ≤ limit → Run s 0 g end n → size g ≤ room w → Run-answers w g end n (run s w)
+  unfolding run
+  run-answered {g} {end} {n} h t k = rw (le-leb (length s) limit h, run-out t) (stored-run w (only g) (place end n) k)
+
+  pub run-refused : {c i n : ℕ} → length s ≤ limit → Run-stops s 0 c i n → run s w ≡ refused c i n 0 w
+  unfolding run stored
+  run-refused h t = rw (le-leb (length s) limit h, run-halt t)
+
+  pub run-too-long : limit < length s → run s w ≡ refused 1 0 0 0 w
+  unfolding run
+  run-too-long h = rw (lt-leb (length s) limit h)
+
+  -- no input has two runs
+  pub one-run : {g h : Forest} {end n last m : ℕ} → Run s 0 g end n → Run s 0 h last m → (g ≡ h) × (end ≡ last) × (n ≡ m)
+  one-run {g} {h} {end} {n} {last} {m} t u =
+      let e : got (only g) (place end n) ≡ got (only h) (place last m) = sym (run-out t) ∙ run-out u in
+      let x : only g ≡ only h = cc in
+      let y : place end n ≡ place last m = cc in
+      (ap (λ (f : Found). f .ranges) x, ap (λ (q : Place). q .at) y, ap (λ (q : Place). q .steps) y)
