@@ -19,15 +19,16 @@ use Rattle.reading.proofs.Faults.{either}
 abbrev pub Code : ℕ → Type 0
 Code c = (2 ≤ c) × (c ≤ 8)
 
-abbrev listed : ℕ → Bool
-listed c = leb 2 c & leb c 8
+-- and one that a test may be refused with: 8 is none of these
+abbrev pub listed : ℕ → Bool
+listed c = leb 2 c & leb c 7
 
 both : (a b : Bool) → (a & b) ≡ true → (a ≡ true) × (b ≡ true)
 both true b h = (refl, h)
 both false b h = let z : _≡_ {A = ℕ} 0 1 = cc in absurd (omega arith)
 
-is-code : (c : ℕ) → listed c ≡ true → Code c
-is-code c h = let b = both (leb 2 c) (leb c 8) h in (leb-true 2 c (b .0), leb-true c 8 (b .1))
+pub test-code : (c : ℕ) → listed c ≡ true → (2 ≤ c) × (c ≤ 7)
+test-code c h = let b = both (leb 2 c) (leb c 7) h in (leb-true 2 c (b .0), leb-true c 7 (b .1))
 
 -- an outcome whose code, if it is a refusal, is such a code
 pub data Told {A : Type 0} : Out A → Type 0 where
@@ -39,7 +40,7 @@ told-then (fine {a} {p}) h = h a p
 told-then (fault z) h = fault z
 
 -- the code of each test of a layout: computed
-abbrev item-listed : Item → Bool
+abbrev pub item-listed : Item → Bool
 item-listed word = true
 item-listed (tested ok code) = listed code
 item-listed long = true
@@ -72,7 +73,7 @@ module _ (s : List ℕ) (p : Place) where
   unfolding read-item
   told-item word h = told-fixed 4 _
   told-item (tested ok code) h =
-      either Told (leb (p .at + 4) (length s)) (either Told (ok (be4 s (p .at))) fine (fault (is-code code h))) (fault (omega arith, omega arith))
+      either Told (leb (p .at + 4) (length s)) (either Told (ok (be4 s (p .at))) fine (let z = test-code code h in fault (z .0, omega (arith, z .1)))) (fault (omega arith, omega arith))
   told-item long h = told-fixed 8 _
   told-item int h = told-fixed 4 _
   told-item (block w) h = told-fixed (octet-count w) _
@@ -87,7 +88,7 @@ told-times r s h (suc n) p = told-then (h p) (λ a q. told-then (told-times r s 
 -- ---- scripts
 
 -- each code of a script is such a code
-data Coded : Script → Type 0 where
+pub data Coded : Script → Type 0 where
   gives : {a : Found} → Coded (give a)
   refuses : {c : ℕ} → Code c → Coded (refuse c)
   stands : {k : ℕ → Script} → ((n : ℕ) → Coded (k n)) → Coded (here k)
@@ -154,7 +155,7 @@ unfolding flow
 coded-flow limit zero = refuses {c = 8} (omega arith, omega arith)
 coded-flow limit (suc left) = coded-framed (coded-flows (reads refl (λ n. stands (λ a. repeats (coded-flow limit left) (λ r. stands (λ e. gives))))))
 
-coded-datagram : (limit : ℕ) → Coded (datagram-to limit)
+pub coded-datagram : (limit : ℕ) → Coded (datagram-to limit)
 unfolding datagram-to samples
 coded-datagram limit =
     let f : Coded (flow limit limit) = coded-flow limit limit in

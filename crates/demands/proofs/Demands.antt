@@ -3,23 +3,24 @@
 use Prim.Native.Nat.{ℕ, _*_, _/_, _≤_, _<_}
 use mathlib.Core.Path.{_≡_}
 use mathlib.Core.List.{List}
-use lib.ListN.{length, drop}
+use lib.ListN.{length, take, drop}
 use mathlib.Core.Bool.{true}
 use Rattle.reading.specs.Script.{Forest, Found}
 use Rattle.reading.specs.Layout.{datagram}
-use Rattle.reading.specs.Answer.{limit, nobody, size, no-header, refused, one, run}
+use Rattle.reading.specs.Answer.{limit, nobody, size, no-header, Answer, refused, one, run}
 use Rattle.reading.proofs.Holding.{read-here}
 use Rattle.reading.proofs.Descriptors.{descriptor, Read-as, stored-reading-accepts}
 use Rattle.demands.proofs.Accepted.{Reading, Answers, one-reading, Allowed, Accepted, accepted-reads, reading-answers, reading-fits}
 use Rattle.demands.proofs.Fielded.{Fields-are, one-fields, run-fields}
 use Rattle.demands.proofs.Stops.{Stops}
-use Rattle.demands.proofs.Itemised.{Itemised, one-itemised, long-refused, fault-refused, one-fault, no-fault}
+use Rattle.demands.proofs.Itemised.{Itemised, one-itemised, long-refused, fault-refused, one-fault, no-fault, room-last, eight-unseen}
 use Rattle.demands.proofs.Tries.{Run, Run-stops}
 use Rattle.demands.proofs.RunItemised.{Run-answers, Run-itemised, run-itemised, Run-accepted, run-accepts, run-answered, run-refused, run-too-long, one-run}
 use Rattle.demands.proofs.Quarter.{one-quartered, run-quartered, one-room, run-room}
 use Rattle.demands.proofs.Kept.{one-kept, run-kept}
 use Rattle.demands.proofs.Nested.{end}
 use Rattle.demands.proofs.Siblings.{Inside}
+use Rattle.demands.proofs.Impostors.{Call, Equals, p2, refuses-all, answers-p2, writes-nothing, own-steps, run-invents}
 use Rattle.demands.proofs.Placed.{row, one-placed, run-placed}
 
 module _ (s w : List ℕ) where
@@ -121,6 +122,15 @@ module _ (s w : List ℕ) where
   pub fault-or-reading : {c i n bytes items : ℕ} {f : Found} → Stops datagram 0 s c i n → Allowed s f bytes items → ⊥
   fault-or-reading = no-fault s w
 
+  -- code 9 comes after all: only where there is a whole reading, for which the store has no room; steps and needed are that reading's
+  pub no-room-last : one s w .code ≡ 9
+      → (f : Found) × (bytes items : ℕ) × Allowed s f bytes items × (length w / 6 < size (f .ranges)) × (one s w ≡ refused 9 0 items (size (f .ranges)) w)
+  no-room-last = room-last s w
+
+  -- code 8 precedes any look at that record's bytes: an input that is as long, and alike before that position, is answered alike
+  pub record-not-looked-at : (t : List ℕ) → one s w .code ≡ 8 → length t ≡ length s → take (one s w .at) t ≡ take (one s w .at) s → one t w ≡ one s w
+  record-not-looked-at t = eight-unseen s t w
+
   -- a run likewise: its steps are the items of every datagram tried
   pub run-steps-are-items : Run-itemised s w (run s w)
   run-steps-are-items = run-itemised s w
@@ -172,3 +182,23 @@ module _ (s w : List ℕ) where
   pub run-sibling-after-sibling : run s w .code ≡ 0 → (i k : ℕ) → i < k → k < run s w .needed → row (run s w .store) i .parent ≡ row (run s w .store) k .parent
       → end (row (run s w .store) i .span) ≤ row (run s w .store) k .span .start
   run-sibling-after-sibling z = run-placed s w z .siblings-apart
+
+-- ---- the impostors (`Impostors`): a call that answers what the definitions say does none of these
+
+module _ (f : Call) where
+  pub not-refuses-all : Equals f one → ((s w : List ℕ) → f s w .code ≡ 0 → ⊥) → ⊥
+  not-refuses-all e h = refuses-all f h e
+
+  pub not-answers-p2 : Equals f one → ((s w : List ℕ) → f s w ≡ one p2 w) → ⊥
+  not-answers-p2 e h = answers-p2 f h e
+
+  pub not-writes-nothing : Equals f one → ((s w : List ℕ) → f s w .store ≡ w) → ⊥
+  not-writes-nothing e h = writes-nothing f h e
+
+  -- no step count that is made of the input's length, the code, the position and the descriptors
+  pub not-own-steps : Equals f one → (g : ℕ → ℕ → ℕ → ℕ → ℕ) → ((s w : List ℕ) → f s w .steps ≡ g (length s) (f s w .code) (f s w .at) (f s w .needed)) → ⊥
+  not-own-steps e g h = own-steps f g h e
+
+  -- no run that is made of its first datagram's answer and the input's length
+  pub not-run-invents : Equals f run → (g : Answer → ℕ → List ℕ → Answer) → ((s w : List ℕ) → f s w ≡ g (one s w) (length s) w) → ⊥
+  not-run-invents e g h = run-invents f g h e

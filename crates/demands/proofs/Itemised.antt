@@ -8,17 +8,19 @@ use native.Mathlib.Omega.{arith}
 use native.Mathlib.Nat.{zero-add}
 use borrow.Author.Tests.{le-leb, lt-leb, leb-true, leb-false}
 use lib.Dec.{leb}
-use lib.ListN.{length, drop}
+use lib.ListN.{length, take, drop}
 use Rattle.reading.specs.Script.{Found}
 use Rattle.reading.specs.Cursor.{Place, Out, got, stop, follow}
-use Rattle.reading.specs.Layout.{datagram}
+use Rattle.reading.specs.Layout.{depth-limit, datagram}
 use Rattle.reading.specs.Answer.{limit, limited, from, size, room, header-of, Answer, refused, stored, one}
 use Rattle.reading.proofs.Items.{never}
 use Rattle.reading.proofs.Stands.{place}
+use Rattle.demands.proofs.Codes.{Told, fault, datagram-told}
 use Rattle.demands.proofs.Accepted.{Allowed, Answers, given, accepted-allowed, stored-answers}
 use Rattle.demands.proofs.Stops.{Stops}
 use Rattle.demands.proofs.Stopped.{stopped}
 use Rattle.demands.proofs.Halting.{halting}
+use Rattle.demands.proofs.Unseen.{record-unseen}
 
 -- what each answer to s and w says of the reading of s
 pub data Itemised (s w : List ℕ) (a : Answer) : Type 0 where
@@ -74,3 +76,34 @@ module _ (s w : List ℕ) where
   -- and no reading that is allowed has one
   pub no-fault : {c i n bytes items : ℕ} {f : Found} → Stops datagram 0 s c i n → Allowed s f bytes items → ⊥
   no-fault t r = never (sym (stops-there t) ∙ given 8 s (r .reading) (r .shallow))
+
+-- ---- code 9 after all: only where there is a whole reading, for which the store has no room
+pub room-last : (s w : List ℕ) → one s w .code ≡ 9
+    → (f : Found) × (bytes items : ℕ) × Allowed s f bytes items × (room w < size (f .ranges)) × (one s w ≡ refused 9 0 items (size (f .ranges)) w)
+room-last s w z = go (one s w) (one-itemised s w) z
+  where
+    listed : (c i n : ℕ) → Told {A = Found} (stop c i n) → c ≤ 8
+    listed c i n (fault k) = k .1
+
+    go : (a : Answer) → Itemised s w a → a .code ≡ 9 → (f : Found) × (bytes items : ℕ) × Allowed s f bytes items × (room w < size (f .ranges)) × (a ≡ refused 9 0 items (size (f .ranges)) w)
+    go a (too-long h f) z = let k = ap (λ (b : Answer). b .code) f in absurd (omega (arith, k, z))
+    go a (faulty h c i n m f) z =
+        let k = ap (λ (b : Answer). b .code) f in
+        let j = listed c i n (subst Told (stops-there s w m) (datagram-told depth-limit s (from 0))) in
+        absurd (omega (arith, k, z, j))
+    go a (no-room h g bytes items r k f) z = (g, bytes, items, r, k, f)
+    go a (whole h g bytes items r k) z = absurd (omega (arith, k .code, z))
+
+-- ---- code 8: the answer to s is the answer to any t that is as long, and alike before that position
+pub eight-unseen : (s t w : List ℕ) → one s w .code ≡ 8 → length t ≡ length s → take (one s w .at) t ≡ take (one s w .at) s → one t w ≡ one s w
+eight-unseen s t w z l e = go (one s w) (one-itemised s w) z e
+  where
+    go : (a : Answer) → Itemised s w a → a .code ≡ 8 → take (a .at) t ≡ take (a .at) s → one t w ≡ a
+    go a (too-long h f) z e = let k = ap (λ (b : Answer). b .code) f in absurd (omega (arith, k, z))
+    go a (faulty h c i n m f) z e =
+        let k : c ≡ 8 = sym (ap (λ (b : Answer). b .code) f) ∙ z in
+        let j : a .at ≡ i = ap (λ (b : Answer). b .at) f in
+        let u = record-unseen (subst (λ (d : ℕ). Stops datagram 0 s d i n) k m) t l (rw j at e) in
+        fault-refused t w (rw l h) u ∙ ap (λ (d : ℕ). refused d i n 0 w) (sym k) ∙ sym f
+    go a (no-room h g bytes items r k f) z e = let j = ap (λ (b : Answer). b .code) f in absurd (omega (arith, j, z))
+    go a (whole h g bytes items r k) z e = absurd (omega (arith, k .code, z))

@@ -18,4 +18,6 @@ pub mod Itemised
 pub mod Tries
 pub mod Tried
 pub mod RunItemised
+pub mod Unseen
+pub mod Impostors
 pub mod Demands
