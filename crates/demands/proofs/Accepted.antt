@@ -13,11 +13,11 @@ use Rattle.reading.specs.Script.{Found}
 use Rattle.reading.specs.Cursor.{Place, Out, got, stop, follow}
 use Rattle.reading.specs.Grammar.{Is}
 use Rattle.reading.specs.Layout.{depth-limit, datagram-to, datagram}
-use Rattle.reading.specs.Answer.{limit, limited, from, nobody, size, rows, room, header-of, Answer, refused, stored, one}
+use Rattle.reading.specs.Answer.{limit, from, nobody, size, rows, room, header-of, Answer, refused, stored, one}
 use Rattle.reading.proofs.Stands.{place}
 use Rattle.reading.proofs.Complete.{complete}
 use Rattle.reading.proofs.Exactly.{accepted-is-read}
-use Rattle.demands.proofs.Codes.{Told, fine, fault, datagram-told}
+use Rattle.demands.proofs.Codes.{Told, fault, datagram-told}
 use Rattle.demands.proofs.Quarter.{one-size}
 use Rattle.demands.proofs.Depths.{Shallow, deeper}
 use Rattle.demands.proofs.Limit.{no-deeper, same-reading}

@@ -1,7 +1,7 @@
 -- The code of a datagram that is refused is one of 2 to 8, and so is that of a run of them. Assumes nothing.
-use Prim.Native.Nat.{ℕ, zero, suc, _+_, _-_, _≤_}
-use mathlib.Core.Path.{_≡_, refl, sym, ap, _∙_, subst}
-use mathlib.Core.Bool.{Bool, true, false, cond}
+use Prim.Native.Nat.{ℕ, zero, suc, _+_, _≤_}
+use mathlib.Core.Path.{_≡_, refl}
+use mathlib.Core.Bool.{Bool, true, false}
 use mathlib.Core.List.{List, [], _∷_}
 use native.Mathlib.Omega.{arith}
 use borrow.Author.Tests.{leb-true}
@@ -11,7 +11,7 @@ use Rattle.reading.specs.Bytes.{be4, padded}
 use Rattle.reading.specs.Utf8.{_&_, utf8}
 use Rattle.reading.specs.Script.{octet-count, Span, Value, Found, Item, word, tested, long, int, block, opaque, string, Script, give, refuse, here, item, within, repeat}
 use Rattle.reading.specs.Cursor.{Place, Out, got, stop, Reader, then, fixed, max-opaque, bytes, read-opaque, read-item, times, inside, follow}
-use Rattle.reading.specs.Layout.{num, Field, plain, mac, addr, list, segments, address-of, run-of, field, fields, Row, _⟼_, _⟼_each_, opened, framed, flows, flow, counter, samples, datagram-to, depth-limit, datagram}
+use Rattle.reading.specs.Layout.{num, Field, plain, mac, addr, list, segments, address-of, run-of, field, fields, Row, _⟼_, _⟼_each_, opened, framed, flows, flow, counter, samples, datagram-to, depth-limit}
 use Rattle.reading.specs.Answer.{tried, datagrams}
 use Rattle.reading.proofs.Faults.{either}
 

@@ -1,23 +1,23 @@
 -- Demand 2, of field reading: for each descriptor of an accepted input whose kind and format are read here, field reading answers the values that
 -- the grammar reads at the start of the descriptor's range. For one datagram, and for a run. Assumes nothing.
-use Prim.Native.Nat.{ℕ, _+_, _<_, _≤_}
-use mathlib.Core.Path.{_≡_, refl, sym, ap, _∙_, subst}
+use Prim.Native.Nat.{ℕ, _+_, _<_}
+use mathlib.Core.Path.{_≡_, sym, ap, _∙_}
 use mathlib.Core.Bool.{true}
-use mathlib.Core.List.{List, [], _++_}
+use mathlib.Core.List.{List, _++_}
 use native.Mathlib.Omega.{arith}
 use native.Mathlib.Nat.{zero-add}
 use lib.ListN.{length, take, drop}
 use lib.Seq.{length-take-le}
 use Rattle.reading.specs.Script.{Value, Range, Forest, bare, Found}
-use Rattle.reading.specs.Cursor.{Place, Out, got, follow}
+use Rattle.reading.specs.Cursor.{got, follow}
 use Rattle.reading.specs.Grammar.{Is}
 use Rattle.reading.specs.Values.{alone}
 use Rattle.reading.specs.Answer.{from, Answer, one, run, layout-of}
-use Rattle.reading.proofs.Stands.{place, Stands, drop-take, held, front}
-use Rattle.reading.proofs.Fields.{fields-out, fields-then}
+use Rattle.reading.proofs.Stands.{place, drop-take}
+use Rattle.reading.proofs.Fields.{fields-then}
 use Rattle.reading.proofs.Sound.{sound}
-use Rattle.reading.proofs.Holding.{read-here, up-to, Holds}
-use Rattle.reading.proofs.Descriptors.{read-range, gave, Read-as, descriptor, Stored-read, stored-reading-accepts, stored-run-reading-accepts}
+use Rattle.reading.proofs.Holding.{read-here, up-to}
+use Rattle.reading.proofs.Descriptors.{read-range, gave, Read-as, descriptor, stored-reading-accepts, stored-run-reading-accepts}
 
 -- the values of a layout, and nothing else
 abbrev pub only-values : List Value → Found

@@ -1,13 +1,13 @@
 -- Where the grammar's reading stops, the cursor stops: so there is one code, one position and one number of items. By induction on the relation.
 -- Assumes nothing.
-use Prim.Native.Nat.{ℕ, zero, suc, _+_, _≤_, _<_}
-use mathlib.Core.Path.{_≡_, refl, sym, ap, _∙_}
-use mathlib.Core.List.{List, [], _++_, append-nil}
+use Prim.Native.Nat.{ℕ, _+_}
+use mathlib.Core.Path.{_≡_, refl, _∙_}
+use mathlib.Core.List.{List, [], _++_}
 use native.Mathlib.Omega.{arith}
-use lib.ListN.{length, take, length-append}
+use lib.ListN.{length, take}
 use lib.Seq.{length-take-le}
-use Rattle.reading.specs.Script.{Span, Value, Found, Item, Script, refuse, here, item, within, repeat}
-use Rattle.reading.specs.Cursor.{Place, Out, got, stop, then, read-opaque, read-item, times, inside, follow}
+use Rattle.reading.specs.Script.{Span, Value, Found, Item, Script, item, within, repeat}
+use Rattle.reading.specs.Cursor.{Place, Out, got, stop, read-opaque, read-item, times, inside, follow}
 use Rattle.reading.specs.Grammar.{Opaque, Is}
 use Rattle.reading.proofs.Stands.{place, Stands, opaque-there, payload-there, bytes-there, drop-take, held, front}
 use Rattle.reading.proofs.Complete.{complete}

@@ -1,6 +1,6 @@
 -- Demand 3's first sentence, for one datagram: the steps are the items of the written reading up to where it stopped. And the first fault: code 1
 -- before all, then the first item that is none, and 9 after all. Assumes nothing.
-use Prim.Native.Nat.{ℕ, _+_, _≤_, _<_}
+use Prim.Native.Nat.{ℕ, _≤_, _<_}
 use mathlib.Core.Path.{_≡_, refl, sym, ap, _∙_, subst}
 use mathlib.Core.Bool.{Bool, true, false, cond}
 use mathlib.Core.List.{List}
@@ -8,13 +8,12 @@ use native.Mathlib.Omega.{arith}
 use native.Mathlib.Nat.{zero-add}
 use borrow.Author.Tests.{le-leb, lt-leb, leb-true, leb-false}
 use lib.Dec.{leb}
-use lib.ListN.{length, take, drop}
+use lib.ListN.{length, take}
 use Rattle.reading.specs.Script.{Found}
-use Rattle.reading.specs.Cursor.{Place, Out, got, stop, follow}
+use Rattle.reading.specs.Cursor.{Out, got, stop, follow}
 use Rattle.reading.specs.Layout.{depth-limit, datagram}
-use Rattle.reading.specs.Answer.{limit, limited, from, size, room, header-of, Answer, refused, stored, one}
+use Rattle.reading.specs.Answer.{limit, from, size, room, header-of, Answer, refused, stored, one}
 use Rattle.reading.proofs.Items.{never}
-use Rattle.reading.proofs.Stands.{place}
 use Rattle.demands.proofs.Codes.{Told, fault, datagram-told}
 use Rattle.demands.proofs.Accepted.{Allowed, Answers, given, accepted-allowed, stored-answers}
 use Rattle.demands.proofs.Stops.{Stops}

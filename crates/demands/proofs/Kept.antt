@@ -1,7 +1,7 @@
 -- Demand 1: a refusal leaves every store word as it was, and so does an acceptance the words behind its descriptors. For one datagram,
 -- and for a run. Assumes nothing.
-use Prim.Native.Nat.{ℕ, _+_, _*_, _≤_}
-use mathlib.Core.Path.{_≡_, refl, sym, ap, _∙_}
+use Prim.Native.Nat.{ℕ, _*_}
+use mathlib.Core.Path.{_≡_, refl, _∙_}
 use mathlib.Core.Bool.{Bool, true, false, cond}
 use mathlib.Core.List.{List, _++_}
 use native.Mathlib.Omega.{arith}
@@ -10,7 +10,7 @@ use lib.Dec.{leb}
 use lib.ListN.{length, drop, length-append, length-drop}
 use lib.Seq.{drop-at}
 use Rattle.reading.specs.Script.{Value, Found}
-use Rattle.reading.specs.Cursor.{Place, Out, got, stop, follow}
+use Rattle.reading.specs.Cursor.{Out, got, stop, follow}
 use Rattle.reading.specs.Layout.{datagram}
 use Rattle.reading.specs.Answer.{limit, limited, from, nobody, size, rows, room, Header, header-of, no-header, Answer, refused, stored, one, datagrams, run}
 use Rattle.reading.proofs.Faults.{either}

@@ -20,4 +20,6 @@ pub mod Tried
 pub mod RunItemised
 pub mod Unseen
 pub mod Impostors
+pub mod Abnf
+pub mod Characters
 pub mod Demands

@@ -1,12 +1,11 @@
 -- The grammar knows no limit of depth: what it reads with n levels has no record deeper than n, and where it has none deeper than m it is
 -- read with m levels just so. By the layouts. Assumes nothing.
-use Prim.Native.Nat.{ℕ, zero, suc, _+_, _-_, _≤_, _<_}
-use mathlib.Core.Path.{_≡_, refl, sym, ap, _∙_, subst}
+use Prim.Native.Nat.{ℕ, zero, suc, _-_, _≤_, _<_}
+use mathlib.Core.Path.{_≡_, refl, sym, subst}
 use mathlib.Core.Bool.{Bool, true, false, cond}
 use mathlib.Core.List.{List, [], _∷_}
 use native.Mathlib.Omega.{arith}
 use lib.Dec.{eqb}
-use lib.ListN.{length}
 use Rattle.reading.specs.Script.{Value, Found, nothing, Item, Script, give, here, item, repeat}
 use Rattle.reading.specs.Grammar.{Many, Is}
 use Rattle.reading.specs.Layout.{num, Field, plain, mac, addr, list, segments, address-of, run-of, field, fields, Row, _⟼_, _⟼_each_, last-number, opened, ranged, between, framed, pdu, flows, flow, counter, samples, sample, header, datagram-to}

@@ -1,7 +1,7 @@
 -- Demand 3: in an accepted input each child's range lies inside its parent's, and a sibling starts at or after the end of the one before.
 -- Said of the forest of ranges, by frames; `Placed` says it of the store. Assumes nothing.
 use Prim.Native.Nat.{ℕ, zero, suc, _+_, _-_, _≤_}
-use mathlib.Core.Path.{_≡_, refl, sym, ap, _∙_, subst}
+use mathlib.Core.Path.{_≡_, refl, sym, _∙_, subst}
 use mathlib.Core.Bool.{Bool, true, false, cond}
 use mathlib.Core.List.{List, [], _∷_}
 use native.Mathlib.Omega.{arith}

@@ -1,5 +1,5 @@
 -- What the cursor read, or refused, of one item, of one opaque or of so many in a row, in the grammar's terms. Assumes nothing.
-use Prim.Native.Nat.{ℕ, zero, suc, _+_, _-_, _≤_, _<_}
+use Prim.Native.Nat.{ℕ, _+_, _≤_, _<_}
 use mathlib.Core.Path.{_≡_, refl, sym, ap, _∙_, subst}
 use mathlib.Core.Bool.{Bool, true, false, cond}
 use mathlib.Core.List.{List, [], _∷_, _++_, append-nil}
@@ -7,15 +7,15 @@ use native.Mathlib.Omega.{arith}
 use native.Mathlib.Nat.{add-zero}
 use borrow.Author.Tests.{leb-true, leb-false}
 use lib.Dec.{leb}
-use lib.ListN.{length, take, drop, getD, length-drop}
+use lib.ListN.{length, drop, length-drop}
 use lib.Seq.{drop-drop, drop-at, getD-drop}
-use Rattle.reading.specs.Bytes.{be4, be8, padded, signed}
+use Rattle.reading.specs.Bytes.{be4, padded}
 use Rattle.reading.specs.Utf8.{utf8}
-use Rattle.reading.specs.Script.{octet-count, Span, Value, number, integer, octets, part, bare, Found, nothing, _&&_, Item, word, tested, long, int, block, opaque, string, Script, give, item, repeat}
-use Rattle.reading.specs.Cursor.{Place, Out, got, stop, Reader, then, on, fixed, bytes, read-opaque, read-item, times, follow}
+use Rattle.reading.specs.Script.{octet-count, Span, Value, number, part, bare, Found, Item, word, tested, long, int, block, opaque, string, Script, give, item, repeat}
+use Rattle.reading.specs.Cursor.{Place, Out, got, stop, then, on, fixed, bytes, read-opaque, read-item, times, follow}
 use Rattle.reading.specs.Grammar.{Opaque, Is-item, Many, Is}
-use Rattle.reading.proofs.Items.{never, split}
-use Rattle.reading.proofs.Stands.{place, Stands, payload-there, bytes-there}
+use Rattle.reading.proofs.Items.{never}
+use Rattle.reading.proofs.Stands.{Stands, payload-there, bytes-there}
 use Rattle.reading.proofs.Sound.{sound}
 use Rattle.demands.proofs.Stops.{No-opaque, no-length, too-long, cut, No-item, no-word, no-tested, failed, no-long, no-int, no-block, no-part, no-string, not-utf8}
 

@@ -3,7 +3,7 @@
 use Prim.Native.Nat.{ℕ, zero, suc, _+_, _*_, _-_, _≤_, _<_}
 use mathlib.Core.Path.{_≡_, refl, sym, ap, _∙_, subst}
 use mathlib.Core.Bool.{Bool, true, false, cond}
-use mathlib.Core.List.{List, [], _∷_, _++_, append-assoc}
+use mathlib.Core.List.{List, _∷_, _++_, append-assoc}
 use native.Mathlib.Omega.{arith}
 use borrow.Author.Tests.{leb-true, leb-false}
 use lib.Dec.{leb}
@@ -16,7 +16,7 @@ use Rattle.reading.specs.Answer.{limit, limited, from, nobody, size, rows, room
 use Rattle.reading.proofs.Faults.{either}
 use Rattle.reading.proofs.Stored.{rows-length}
 use Rattle.reading.proofs.Descriptors.{entry}
-use Rattle.demands.proofs.Codes.{Told, fine, fault, datagram-told, run-told}
+use Rattle.demands.proofs.Codes.{Told, fault, datagram-told, run-told}
 use Rattle.demands.proofs.Quarter.{one-size, run-size}
 use Rattle.demands.proofs.Nested.{end, Nested, datagram-nested, run-nested}
 use Rattle.demands.proofs.Siblings.{Row, Inside, In, this, within, behind, Parent, own, before, parted, Outside, over, parent-holds, siblings-apart}

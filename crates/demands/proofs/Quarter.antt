@@ -2,13 +2,12 @@
 -- input is never refused for room. For one datagram, and for a run over its sums. Assumes nothing.
 use Prim.Native.Nat.{ℕ, zero, suc, _+_, _*_, _/_, _≤_}
 use mathlib.Core.Path.{_≡_, refl}
-use mathlib.Core.Bool.{Bool, true, false, cond}
 use mathlib.Core.List.{List}
 use native.Mathlib.Omega.{arith}
 use borrow.Author.Tests.{le-leb}
 use lib.Dec.{eqb, leb}
 use lib.ListN.{length}
-use Rattle.reading.specs.Script.{Value, _⊕_, Found, nothing}
+use Rattle.reading.specs.Script.{Value, _⊕_, Found}
 use Rattle.reading.specs.Cursor.{Place, Out, got, stop, then, follow}
 use Rattle.reading.specs.Layout.{only, depth-limit, datagram}
 use Rattle.reading.specs.Answer.{limit, limited, from, size, room, Header, header-of, no-header, Answer, refused, stored, one, tried, datagrams, run}

@@ -1,6 +1,6 @@
 -- Demands 2 and 3 of what a run answers: code 0 exactly when there is a run by the grammar, whose ranges, end and items are answered; and on a refusal
 -- the items up to the fault. Assumes nothing.
-use Prim.Native.Nat.{ℕ, _+_, _*_, _≤_, _<_}
+use Prim.Native.Nat.{ℕ, _*_, _≤_, _<_}
 use mathlib.Core.Path.{_≡_, refl, sym, ap, _∙_, subst}
 use mathlib.Core.Bool.{Bool, true, false, cond}
 use mathlib.Core.List.{List, _++_}
@@ -9,11 +9,10 @@ use native.Mathlib.Nat.{zero-add}
 use borrow.Author.Tests.{le-leb, lt-leb, leb-true, leb-false}
 use lib.Dec.{leb}
 use lib.ListN.{length, drop}
-use Rattle.reading.specs.Script.{Value, Forest, Found}
+use Rattle.reading.specs.Script.{Forest, Found}
 use Rattle.reading.specs.Cursor.{Place, Out, got, stop}
 use Rattle.reading.specs.Layout.{only}
-use Rattle.reading.specs.Answer.{limit, limited, from, nobody, size, rows, room, no-header, Answer, refused, stored, datagrams, run}
-use Rattle.reading.proofs.Items.{never}
+use Rattle.reading.specs.Answer.{limit, from, nobody, size, rows, room, no-header, Answer, refused, stored, datagrams, run}
 use Rattle.reading.proofs.Stands.{place}
 use Rattle.reading.proofs.Runs.{run-from}
 use Rattle.demands.proofs.Codes.{Told, fine, fault, run-told}

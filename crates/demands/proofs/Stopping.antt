@@ -1,24 +1,21 @@
 -- What the cursor answers where the grammar has no item, no opaque or not so many in a row: that refusal, at that place. Assumes nothing.
 use Prim.Native.Nat.{ℕ, zero, suc, _+_, _-_, _≤_, _<_}
-use mathlib.Core.Path.{_≡_, refl, sym, ap, _∙_, subst}
-use mathlib.Core.Bool.{Bool, true, false, cond}
-use mathlib.Core.List.{List, [], _∷_, _++_, append-nil}
+use mathlib.Core.Path.{_≡_, refl, sym, ap, _∙_}
+use mathlib.Core.Bool.{false}
+use mathlib.Core.List.{List, [], _++_, append-nil}
 use native.Mathlib.Omega.{arith}
-use native.Mathlib.Nat.{add-zero, add-assoc}
+use native.Mathlib.Nat.{add-zero}
 use borrow.Author.Tests.{le-leb, lt-leb}
-use lib.Dec.{leb}
-use lib.ListN.{length, take, drop, length-drop, length-append}
-use lib.Seq.{length-take-le}
+use lib.ListN.{length, drop, length-drop, length-append}
 use Rattle.reading.specs.Bytes.{be4, padded}
-use Rattle.reading.specs.Utf8.{utf8}
-use Rattle.reading.specs.Script.{octet-count, Span, Value, part, bare, Found, nothing, _&&_, Item, word, tested, long, int, block, opaque, string, Script, give, refuse, here, item, within, repeat}
-use Rattle.reading.specs.Cursor.{Place, Out, got, stop, Reader, then, fixed, bytes, read-opaque, read-item, times, inside, follow}
-use Rattle.reading.specs.Grammar.{Opaque, Is-item, Many, Is}
-use Rattle.reading.proofs.Items.{never, split}
-use Rattle.reading.proofs.Stands.{place, Stands, opaque-there, payload-there, bytes-there, drop-take, front}
+use Rattle.reading.specs.Script.{octet-count, Value, Found, _&&_, Item, Script, give, item, repeat}
+use Rattle.reading.specs.Cursor.{Place, got, stop, Reader, then, fixed, bytes, read-opaque, read-item, times, follow}
+use Rattle.reading.specs.Grammar.{Is-item, Many, Is}
+use Rattle.reading.proofs.Items.{split}
+use Rattle.reading.proofs.Stands.{place, Stands, opaque-there, payload-there, bytes-there}
 use Rattle.reading.proofs.Complete.{complete}
 use Rattle.reading.proofs.Counts.{repeat-is}
-use Rattle.demands.proofs.Stops.{No-opaque, no-length, too-long, cut, No-item, no-word, no-tested, failed, no-long, no-int, no-block, no-part, no-string, not-utf8, Stops, barred, standing, no-item, past-item, no-opaque, inside-it, past-it, among, past-all}
+use Rattle.demands.proofs.Stops.{No-opaque, no-length, too-long, cut, No-item, no-word, no-tested, failed, no-long, no-int, no-block, no-part, no-string, not-utf8}
 use Rattle.demands.proofs.Pieces.{behind, word-drop, shown, same-shown}
 
 -- b is what is left of s at o

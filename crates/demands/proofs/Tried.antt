@@ -2,17 +2,17 @@
 use Prim.Native.Nat.{ℕ, zero, suc, _+_, _-_, _≤_, _<_}
 use mathlib.Core.Path.{_≡_, refl, sym, ap, _∙_, subst}
 use mathlib.Core.Bool.{Bool, true, false, cond}
-use mathlib.Core.List.{List, [], _++_}
+use mathlib.Core.List.{List, _++_}
 use native.Mathlib.Omega.{arith}
-use native.Mathlib.Nat.{zero-add, add-zero}
-use borrow.Author.Tests.{le-leb, lt-leb, leb-true, leb-false, eqb-true, eqb-false, ne-eqb}
+use native.Mathlib.Nat.{add-zero}
+use borrow.Author.Tests.{leb-true, leb-false, eqb-true, eqb-false, ne-eqb}
 use lib.Dec.{leb, eqb}
 use lib.ListN.{length, drop, length-drop, length-append}
 use Rattle.reading.specs.Script.{Forest, bare, _⊕_, Found, nothing}
 use Rattle.reading.specs.Cursor.{Place, Out, got, stop, then, follow}
-use Rattle.reading.specs.Layout.{only, depth-limit, datagram-to, datagram}
-use Rattle.reading.specs.Answer.{from, tried, datagrams}
-use Rattle.reading.proofs.Stands.{place, Stands}
+use Rattle.reading.specs.Layout.{only, depth-limit, datagram}
+use Rattle.reading.specs.Answer.{tried, datagrams}
+use Rattle.reading.proofs.Stands.{place}
 use Rattle.reading.proofs.Sound.{sound}
 use Rattle.reading.proofs.Complete.{complete}
 use Rattle.reading.proofs.Room.{datagram-on}

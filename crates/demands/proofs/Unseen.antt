@@ -1,9 +1,9 @@
 -- Code 8 precedes any look at the record's bytes: whatever stands from that position on, the answer is the same. By induction on where a reading stops.
 -- Assumes nothing.
-use Prim.Native.Nat.{ℕ, zero, suc, _+_, _-_, _≤_, _<_}
-use mathlib.Core.Path.{_≡_, refl, sym, ap, _∙_, subst}
-use mathlib.Core.Bool.{Bool, true}
-use mathlib.Core.List.{List, [], _++_, append-assoc}
+use Prim.Native.Nat.{ℕ, _+_, _-_, _≤_}
+use mathlib.Core.Path.{_≡_, refl, sym, ap, _∙_}
+use mathlib.Core.Bool.{true}
+use mathlib.Core.List.{List, _++_, append-assoc}
 use native.Mathlib.Omega.{arith}
 use native.Mathlib.Nat.{sub-zero}
 use lib.ListN.{length, take, drop, length-append, length-drop, take-append-drop}
@@ -13,7 +13,7 @@ use Rattle.reading.specs.Script.{Item, Script}
 use Rattle.reading.specs.Grammar.{Opaque}
 use Rattle.reading.specs.Layout.{depth-limit, datagram}
 use Rattle.reading.proofs.Stands.{drop-take}
-use Rattle.demands.proofs.Codes.{item-listed, test-code, Coded, gives, refuses, stands, reads, opens, repeats, coded-datagram}
+use Rattle.demands.proofs.Codes.{item-listed, test-code, Coded, refuses, stands, reads, opens, repeats, coded-datagram}
 use Rattle.demands.proofs.Stops.{No-opaque, no-length, too-long, cut, No-item, no-word, no-tested, failed, no-long, no-int, no-block, no-part, no-string, not-utf8, Stops, barred, standing, no-item, past-item, no-opaque, inside-it, past-it, among, past-all}
 
 -- a reading stops no sooner than it starts, and no later than what encloses it ends
