@@ -1,63 +1,93 @@
 -- The three demands, said of what the public calls answer: `decode` answers `one s w` to the input s and the store w, `decode_run` answers
--- `run s w`, and field reading answers `read`. Each line below is proved in the file that it names. Assumes nothing.
+-- `run s w`. This is the file to open first: each theorem is one line, from the file that its heading names. Assumes nothing.
 use Prim.Native.Nat.{ℕ, _*_, _/_, _≤_, _<_}
 use mathlib.Core.Path.{_≡_}
+use mathlib.Core.Bool.{true}
 use mathlib.Core.List.{List}
 use lib.ListN.{length, take, drop}
-use mathlib.Core.Bool.{true}
+use Rattle.reading.specs.Utf8.{utf8}
 use Rattle.reading.specs.Script.{Forest, Found}
-use Rattle.reading.specs.Layout.{datagram}
+use Rattle.reading.specs.Grammar.{Is}
+use Rattle.reading.specs.Layout.{depth-limit, datagram-to, datagram}
 use Rattle.reading.specs.Answer.{limit, nobody, size, no-header, Answer, refused, one, run}
 use Rattle.reading.proofs.Holding.{read-here}
-use Rattle.reading.proofs.Descriptors.{descriptor, Read-as, stored-reading-accepts}
+use Rattle.reading.proofs.Descriptors.{descriptor, Read-as}
+use Rattle.demands.proofs.Depths.{Shallow}
+use Rattle.demands.proofs.Limit.{no-deeper, same-reading}
 use Rattle.demands.proofs.Accepted.{Reading, Answers, one-reading, Allowed, Accepted, accepted-reads, reading-answers, reading-fits}
-use Rattle.demands.proofs.Fielded.{Fields-are, one-fields, run-fields}
+use Rattle.demands.proofs.Fielded.{Fields-are}
 use Rattle.demands.proofs.Stops.{Stops}
-use Rattle.demands.proofs.Itemised.{Itemised, one-itemised, long-refused, fault-refused, one-fault, no-fault, room-last, eight-unseen}
+use Rattle.demands.proofs.Itemised.{Itemised, one-itemised, fault-refused, one-fault, no-fault, room-last, eight-unseen}
 use Rattle.demands.proofs.Tries.{Run, Run-stops}
-use Rattle.demands.proofs.RunItemised.{Run-answers, Run-itemised, run-itemised, Run-accepted, run-accepts, run-answered, run-refused, run-too-long, one-run}
-use Rattle.demands.proofs.Quarter.{one-quartered, run-quartered, one-room, run-room}
-use Rattle.demands.proofs.Kept.{one-kept, run-kept}
+use Rattle.demands.proofs.RunItemised.{Run-answers, Run-itemised, run-itemised, Run-accepted, run-accepts, run-answered, run-refused, one-run}
 use Rattle.demands.proofs.Nested.{end}
 use Rattle.demands.proofs.Siblings.{Inside}
-use Rattle.demands.proofs.Impostors.{Call, Equals, p2, refuses-all, answers-p2, writes-nothing, own-steps, run-invents}
-use Rattle.demands.proofs.Placed.{row, one-placed, run-placed}
+use Rattle.demands.proofs.Placed.{row}
+use Rattle.demands.proofs.Calls.{Call, Public, kept, quartered, never-for-room, placed, fielded, stored-fields, too-long}
+use Rattle.demands.proofs.Impostors.{Equals, p2, refuses-all, answers-p2, writes-nothing, own-steps, run-invents}
+use Rattle.demands.proofs.Abnf.{UTF8-octets}
+use Rattle.demands.proofs.Characters.{test-by-rules, rules-by-test}
 
-module _ (s w : List ℕ) where
-  -- ---- demand 1: a refusal leaves every store word (`Kept`)
+-- ==== of both calls, for every input and every store
+module _ {c : Call} (p : Public c) (s w : List ℕ) where
+  -- ---- demand 1 (`Kept`): a refusal leaves every store word, shows a header of zeros, and needs no descriptors but for want of room
+  pub refusal-keeps : (c s w .code ≡ 0 → ⊥) → c s w .store ≡ w
+  refusal-keeps = kept p s w .refused-store
 
-  pub refusal-keeps : (one s w .code ≡ 0 → ⊥) → one s w .store ≡ w
-  refusal-keeps = one-kept s w .refused-store
+  pub refusal-shows : (c s w .code ≡ 0 → ⊥) → c s w .head ≡ no-header
+  refusal-shows = kept p s w .refused-head
 
-  pub run-refusal-keeps : (run s w .code ≡ 0 → ⊥) → run s w .store ≡ w
-  run-refusal-keeps = run-kept s w .refused-store
-
-  -- the header of a refusal is all zero, and it needs no descriptors, but for want of room
-  pub refusal-shows : (one s w .code ≡ 0 → ⊥) → one s w .head ≡ no-header
-  refusal-shows = one-kept s w .refused-head
-
-  pub refusal-needs : (one s w .code ≡ 0 → ⊥) → (one s w .code ≡ 9 → ⊥) → one s w .needed ≡ 0
-  refusal-needs = one-kept s w .refused-needed
-
-  pub run-refusal-needs : (run s w .code ≡ 0 → ⊥) → (run s w .code ≡ 9 → ⊥) → run s w .needed ≡ 0
-  run-refusal-needs = run-kept s w .refused-needed
+  pub refusal-needs : (c s w .code ≡ 0 → ⊥) → (c s w .code ≡ 9 → ⊥) → c s w .needed ≡ 0
+  refusal-needs = kept p s w .refused-needed
 
   -- an acceptance leaves the words behind its descriptors, and the store its length
-  pub rest-stays : drop (6 * one s w .needed) (one s w .store) ≡ drop (6 * one s w .needed) w
-  rest-stays = one-kept s w .behind
+  pub rest-stays : drop (6 * c s w .needed) (c s w .store) ≡ drop (6 * c s w .needed) w
+  rest-stays = kept p s w .behind
 
-  pub run-rest-stays : drop (6 * run s w .needed) (run s w .store) ≡ drop (6 * run s w .needed) w
-  run-rest-stays = run-kept s w .behind
+  pub length-stays : length (c s w .store) ≡ length w
+  length-stays = kept p s w .words
 
-  pub length-stays : length (one s w .store) ≡ length w
-  length-stays = one-kept s w .words
+  -- ---- demand 3, the bounds (`Quarter`): accepted or refused; a run's figures are sums over every datagram tried
+  pub steps-bounded : 4 * c s w .steps ≤ length s
+  steps-bounded = quartered p s w .steps
 
-  pub run-length-stays : length (run s w .store) ≡ length w
-  run-length-stays = run-kept s w .words
+  pub needed-bounded : 4 * c s w .needed ≤ length s
+  needed-bounded = quartered p s w .needed
 
-  -- ---- demand 2: one datagram (`Accepted`; that the grammar knows no limit of depth, `Limit`)
+  -- so a store for a quarter of the length, rounded down, is never refused for room
+  pub quarter-suffices : length s / 4 ≤ length w / 6 → c s w .code ≡ 9 → ⊥
+  quarter-suffices = never-for-room p s w
 
-  -- code 0 only where the grammar reads s, with no record deeper than 8; header, descriptors, position and steps are that reading's
+  -- ---- demand 3, nesting (`Placed`, `Siblings`, `Nested`): in an accepted input a child lies inside its parent, which stands before it
+  pub parent-before : c s w .code ≡ 0 → (i : ℕ) → i < c s w .needed → (row (c s w .store) i .parent ≡ nobody → ⊥) → row (c s w .store) i .parent < i
+  parent-before z = placed p s w z .parent-before
+
+  pub child-inside-parent : c s w .code ≡ 0 → (i : ℕ) → i < c s w .needed → (row (c s w .store) i .parent ≡ nobody → ⊥)
+      → Inside (row (c s w .store) i .span) (row (c s w .store) (row (c s w .store) i .parent) .span)
+  child-inside-parent z = placed p s w z .parent-holds
+
+  -- and a sibling starts at or after the end of the one before
+  pub sibling-after-sibling : c s w .code ≡ 0 → (i k : ℕ) → i < k → k < c s w .needed → row (c s w .store) i .parent ≡ row (c s w .store) k .parent
+      → end (row (c s w .store) i .span) ≤ row (c s w .store) k .span .start
+  sibling-after-sibling z = placed p s w z .siblings-apart
+
+  -- ---- demand 2, fields (`Fielded`): of each descriptor that is read here, field reading gives what the grammar reads at the start of its range
+  pub fields-are-read : c s w .code ≡ 0 → (i : ℕ) → i < c s w .needed → read-here (descriptor (c s w .store) i .kind) (descriptor (c s w .store) i .format) ≡ true
+      → Fields-are s (descriptor (c s w .store) i)
+  fields-are-read = fielded p s w
+
+  -- which are the whole reading's values: with them, what is read behind the fields is what the range has inside
+  pub fields-are-the-readings : c s w .code ≡ 0 → (i : ℕ) → i < c s w .needed → read-here (descriptor (c s w .store) i .kind) (descriptor (c s w .store) i .format) ≡ true
+      → (inner : Forest) × Read-as s (descriptor (c s w .store) i) inner
+  fields-are-the-readings = stored-fields p s w
+
+  -- ---- the first fault: code 1 comes before all
+  pub too-long-first : limit < length s → c s w ≡ refused 1 0 0 0 w
+  too-long-first = too-long p s w
+
+-- ==== one datagram
+module _ (s w : List ℕ) where
+  -- ---- demand 2 (`Accepted`): code 0 only where the grammar reads s, with no record deeper than 8; the answer is that reading's
   pub accepted-is-read : one s w .code ≡ 0 → Accepted s w (one s w)
   accepted-is-read = accepted-reads s w
 
@@ -75,44 +105,12 @@ module _ (s w : List ℕ) where
   accepted-exactly short wide =
       (λ z. let a = accepted-reads s w z in (a .found, a .bytes, a .items, a .allowed), λ (f, bytes, items, r). reading-answers s w short r (reading-fits s w short r wide) .code)
 
-  -- ---- demand 2: a run, over each datagram tried (`Tries` says what a run is, `Tried` and `RunItemised` that it is answered)
-
-  -- code 0 only where there is a run by the grammar: datagrams read one after another, and then the end, or one that stops with code 2
-  pub run-accepted-is-read : run s w .code ≡ 0 → Run-accepted s w (run s w)
-  run-accepted-is-read = run-accepts s w
-
-  pub run-read-is-accepted : {g : Forest} {end n : ℕ} → length s ≤ limit → Run s 0 g end n → size g ≤ length w / 6 → Run-answers w g end n (run s w)
-  run-read-is-accepted = run-answered s w
-
-  pub only-run : {g h : Forest} {end n last m : ℕ} → Run s 0 g end n → Run s 0 h last m → (g ≡ h) × (end ≡ last) × (n ≡ m)
-  only-run = one-run s w
-
-  -- ---- demand 2: the fields of each descriptor that is read here (`Fielded`)
-
-  -- field reading gives what the grammar reads at the start of the descriptor's range
-  pub fields-are-read : one s w .code ≡ 0 → (i : ℕ) → i < one s w .needed → read-here (descriptor (one s w .store) i .kind) (descriptor (one s w .store) i .format) ≡ true
-      → Fields-are s (descriptor (one s w .store) i)
-  fields-are-read = one-fields s w
-
-  pub run-fields-are-read : run s w .code ≡ 0 → (i : ℕ) → i < run s w .needed → read-here (descriptor (run s w .store) i .kind) (descriptor (run s w .store) i .format) ≡ true
-      → Fields-are s (descriptor (run s w .store) i)
-  run-fields-are-read = run-fields s w
-
-  -- and these are the values of the whole reading: with them, what lies in the range is what it has inside
-  pub fields-are-the-readings : one s w .code ≡ 0 → (i : ℕ) → i < one s w .needed → read-here (descriptor (one s w .store) i .kind) (descriptor (one s w .store) i .format) ≡ true
-      → (inner : Forest) × Read-as s (descriptor (one s w .store) i) inner
-  fields-are-the-readings = stored-reading-accepts s w
-
-  -- ---- demand 3: steps are items; and the first fault (`Itemised`, by `Stops`)
-
-  -- every answer is one of four: too long, stopped after so many items with why the next is none, read whole without room, or accepted
+  -- ---- demand 3, steps are items (`Itemised`, by `Stops`): every answer is one of four, too long, stopped after so many items with why the next
+  -- is none, read whole without room, or accepted
   pub steps-are-items : Itemised s w (one s w)
   steps-are-items = one-itemised s w
 
-  -- code 1 comes before all; then the first fault is answered, and there is one
-  pub too-long-first : limit < length s → one s w ≡ refused 1 0 0 0 w
-  too-long-first = long-refused s w
-
+  -- ---- the first fault is answered; there is one, and none where there is a reading
   pub first-fault-answered : {c i n : ℕ} → length s ≤ limit → Stops datagram 0 s c i n → one s w ≡ refused c i n 0 w
   first-fault-answered = fault-refused s w
 
@@ -123,68 +121,41 @@ module _ (s w : List ℕ) where
   fault-or-reading = no-fault s w
 
   -- code 9 comes after all: only where there is a whole reading, for which the store has no room; steps and needed are that reading's
-  pub no-room-last : one s w .code ≡ 9
-      → (f : Found) × (bytes items : ℕ) × Allowed s f bytes items × (length w / 6 < size (f .ranges)) × (one s w ≡ refused 9 0 items (size (f .ranges)) w)
+  pub no-room-last : one s w .code ≡ 9 → (f : Found) × (bytes items : ℕ) × Allowed s f bytes items × (length w / 6 < size (f .ranges)) × (one s w ≡ refused 9 0 items (size (f .ranges)) w)
   no-room-last = room-last s w
 
-  -- code 8 precedes any look at that record's bytes: an input that is as long, and alike before that position, is answered alike
+  -- code 8 precedes any look at that record's bytes (`Unseen`): an input that is as long, and alike before that position, is answered alike
   pub record-not-looked-at : (t : List ℕ) → one s w .code ≡ 8 → length t ≡ length s → take (one s w .at) t ≡ take (one s w .at) s → one t w ≡ one s w
   record-not-looked-at t = eight-unseen s t w
 
-  -- a run likewise: its steps are the items of every datagram tried
+-- ==== a run (`Tries` says what a run is by the grammar; `Tried` and `RunItemised` that it is answered)
+module _ (s w : List ℕ) where
+  -- ---- demand 2: code 0 only where datagrams are read one after another, and then the input ends, or one stops with code 2
+  pub run-accepted-is-read : run s w .code ≡ 0 → Run-accepted s w (run s w)
+  run-accepted-is-read = run-accepts s w
+
+  pub run-read-is-accepted : {g : Forest} {end n : ℕ} → length s ≤ limit → Run s 0 g end n → size g ≤ length w / 6 → Run-answers w g end n (run s w)
+  run-read-is-accepted = run-answered s w
+
+  pub only-run : {g h : Forest} {end n last m : ℕ} → Run s 0 g end n → Run s 0 h last m → (g ≡ h) × (end ≡ last) × (n ≡ m)
+  only-run = one-run s w
+
+  -- ---- demand 3: the steps are the items of every datagram tried
   pub run-steps-are-items : Run-itemised s w (run s w)
   run-steps-are-items = run-itemised s w
-
-  pub run-too-long-first : limit < length s → run s w ≡ refused 1 0 0 0 w
-  run-too-long-first = run-too-long s w
 
   pub run-first-fault-answered : {c i n : ℕ} → length s ≤ limit → Run-stops s 0 c i n → run s w ≡ refused c i n 0 w
   run-first-fault-answered = run-refused s w
 
-  -- ---- demand 3: the bounds, accepted or refused (`Quarter`); a run's figures are sums over every datagram tried
+-- ==== the grammar: it knows no limit of depth (`Limit`), and its strings are RFC 3629's (`Characters`, by `Abnf`)
+pub depth-is-the-limit : (o : ℕ) (b : List ℕ) (f : Found) (k : ℕ)
+    → ((n : ℕ) × Is (datagram-to n) o b f k × Shallow depth-limit (f .ranges) → Is datagram o b f k) × (Is datagram o b f k → (n : ℕ) × Is (datagram-to n) o b f k × Shallow depth-limit (f .ranges))
+depth-is-the-limit o b f k = (λ (n, i, z). same-reading n depth-limit o b f k i z, λ i. (depth-limit, i, no-deeper depth-limit o b f k i))
 
-  pub steps-bounded : 4 * one s w .steps ≤ length s
-  steps-bounded = one-quartered s w .steps
+pub strings-are-utf8 : (s : List ℕ) → (utf8 s ≡ true → UTF8-octets s) × (UTF8-octets s → utf8 s ≡ true)
+strings-are-utf8 s = (test-by-rules s, λ t. rules-by-test t)
 
-  pub needed-bounded : 4 * one s w .needed ≤ length s
-  needed-bounded = one-quartered s w .needed
-
-  pub run-steps-bounded : 4 * run s w .steps ≤ length s
-  run-steps-bounded = run-quartered s w .steps
-
-  pub run-needed-bounded : 4 * run s w .needed ≤ length s
-  run-needed-bounded = run-quartered s w .needed
-
-  -- so a store for a quarter of the length, rounded down, is never refused for room
-  pub quarter-suffices : length s / 4 ≤ length w / 6 → one s w .code ≡ 9 → ⊥
-  quarter-suffices = one-room s w
-
-  pub run-quarter-suffices : length s / 4 ≤ length w / 6 → run s w .code ≡ 9 → ⊥
-  run-quarter-suffices = run-room s w
-
-  -- ---- demand 3: nesting, of the descriptors in the store (`Placed`, by `Siblings` and `Nested`)
-
-  pub parent-before : one s w .code ≡ 0 → (i : ℕ) → i < one s w .needed → (row (one s w .store) i .parent ≡ nobody → ⊥) → row (one s w .store) i .parent < i
-  parent-before z = one-placed s w z .parent-before
-
-  pub child-inside-parent : one s w .code ≡ 0 → (i : ℕ) → i < one s w .needed → (row (one s w .store) i .parent ≡ nobody → ⊥)
-      → Inside (row (one s w .store) i .span) (row (one s w .store) (row (one s w .store) i .parent) .span)
-  child-inside-parent z = one-placed s w z .parent-holds
-
-  pub sibling-after-sibling : one s w .code ≡ 0 → (i k : ℕ) → i < k → k < one s w .needed → row (one s w .store) i .parent ≡ row (one s w .store) k .parent
-      → end (row (one s w .store) i .span) ≤ row (one s w .store) k .span .start
-  sibling-after-sibling z = one-placed s w z .siblings-apart
-
-  pub run-child-inside-parent : run s w .code ≡ 0 → (i : ℕ) → i < run s w .needed → (row (run s w .store) i .parent ≡ nobody → ⊥)
-      → Inside (row (run s w .store) i .span) (row (run s w .store) (row (run s w .store) i .parent) .span)
-  run-child-inside-parent z = run-placed s w z .parent-holds
-
-  pub run-sibling-after-sibling : run s w .code ≡ 0 → (i k : ℕ) → i < k → k < run s w .needed → row (run s w .store) i .parent ≡ row (run s w .store) k .parent
-      → end (row (run s w .store) i .span) ≤ row (run s w .store) k .span .start
-  run-sibling-after-sibling z = run-placed s w z .siblings-apart
-
--- ---- the impostors (`Impostors`): a call that answers what the definitions say does none of these
-
+-- ==== the impostors (`Impostors`): a call that answers what the definitions say does none of these
 module _ (f : Call) where
   pub not-refuses-all : Equals f one → ((s w : List ℕ) → f s w .code ≡ 0 → ⊥) → ⊥
   not-refuses-all e h = refuses-all f h e

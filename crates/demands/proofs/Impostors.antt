@@ -9,6 +9,7 @@ use Rattle.reading.specs.Bytes.{be4}
 use Rattle.reading.specs.Numbers.{known, header-protocols}
 use Rattle.reading.specs.Cursor.{read-item, follow}
 use Rattle.reading.specs.Layout.{address-of, run-of, field, fields, last-number, opened, flows, flow, samples, datagram-to}
+use Rattle.demands.proofs.Calls.{Call}
 use Rattle.reading.specs.Answer.{size, rows, header-of, no-header, Answer, stored, one, tried, datagrams, run}
 
 -- big-endian words
@@ -30,10 +31,6 @@ filled = bytes-of (5 ∷ 0 ∷ 0 ∷ 1 ∷ 0 ∷ 1 ∷ 4097 ∷ 4 ∷ 0 ∷ [])
 -- a store for two descriptors
 abbrev lent : List ℕ
 lent = replicate 12 7
-
--- a call: what it answers to an input and a store
-abbrev pub Call : Type 0
-Call = (input store : List ℕ) → Answer
 
 -- it answers what another does, everywhere
 abbrev pub Equals : Call → Call → Type 0

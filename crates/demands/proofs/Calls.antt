@@ -1,0 +1,50 @@
+-- The two calls that read an input into a store, and what holds of both. Assumes nothing.
+use Prim.Native.Nat.{ℕ, _/_, _≤_, _<_}
+use mathlib.Core.Path.{_≡_}
+use mathlib.Core.List.{List}
+use lib.ListN.{length}
+use Rattle.reading.specs.Answer.{limit, room, Answer, refused, one, run}
+use Rattle.reading.proofs.Descriptors.{Stored-read, stored-reading-accepts, stored-run-reading-accepts}
+use Rattle.demands.proofs.Quarter.{Quartered, one-quartered, run-quartered, one-room, run-room}
+use Rattle.demands.proofs.Kept.{Kept, one-kept, run-kept}
+use Rattle.demands.proofs.Placed.{Placed, one-placed, run-placed}
+use Rattle.demands.proofs.Fielded.{All-fields, one-fields, run-fields}
+use Rattle.demands.proofs.Itemised.{long-refused}
+use Rattle.demands.proofs.RunItemised.{run-too-long}
+
+-- what is answered to an input and a store
+abbrev pub Call : Type 0
+Call = (input store : List ℕ) → Answer
+
+-- `decode` answers `one`, and `decode_run` answers `run`
+pub data Public : Call → Type 0 where
+  decode : Public one
+  decode-run : Public run
+
+pub kept : {c : Call} → Public c → (s w : List ℕ) → Kept w (c s w)
+kept decode s w = one-kept s w
+kept decode-run s w = run-kept s w
+
+pub quartered : {c : Call} → Public c → (s w : List ℕ) → Quartered s (c s w)
+quartered decode s w = one-quartered s w
+quartered decode-run s w = run-quartered s w
+
+pub never-for-room : {c : Call} → Public c → (s w : List ℕ) → length s / 4 ≤ room w → c s w .code ≡ 9 → ⊥
+never-for-room decode s w = one-room s w
+never-for-room decode-run s w = run-room s w
+
+pub placed : {c : Call} → Public c → (s w : List ℕ) → Placed (c s w)
+placed decode s w = one-placed s w
+placed decode-run s w = run-placed s w
+
+pub fielded : {c : Call} → Public c → (s w : List ℕ) → All-fields s (c s w)
+fielded decode s w = one-fields s w
+fielded decode-run s w = run-fields s w
+
+pub stored-fields : {c : Call} → Public c → (s w : List ℕ) → Stored-read s (c s w)
+stored-fields decode s w = stored-reading-accepts s w
+stored-fields decode-run s w = stored-run-reading-accepts s w
+
+pub too-long : {c : Call} → Public c → (s w : List ℕ) → limit < length s → c s w ≡ refused 1 0 0 0 w
+too-long decode s w = long-refused s w
+too-long decode-run s w = run-too-long s w
