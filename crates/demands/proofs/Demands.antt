@@ -19,7 +19,8 @@ use Rattle.demands.proofs.Fielded.{Fields-are}
 use Rattle.demands.proofs.Stops.{Stops}
 use Rattle.demands.proofs.Itemised.{Itemised, one-itemised, fault-refused, one-fault, no-fault, room-last, eight-unseen}
 use Rattle.demands.proofs.Tries.{Run, Run-stops}
-use Rattle.demands.proofs.RunItemised.{Run-answers, Run-itemised, run-itemised, Run-accepted, run-accepts, run-answered, run-refused, one-run}
+use Rattle.demands.proofs.RunItemised.{Run-answers, Run-itemised, run-itemised, Run-accepted, run-accepts, run-answered, run-refused, one-run, run-room-last}
+use Rattle.demands.proofs.RunUnseen.{run-eight-unseen}
 use Rattle.demands.proofs.Nested.{end}
 use Rattle.demands.proofs.Siblings.{Inside}
 use Rattle.demands.proofs.Placed.{row}
@@ -146,6 +147,12 @@ module _ (s w : List ℕ) where
 
   pub run-first-fault-answered : {c i n : ℕ} → length s ≤ limit → Run-stops s 0 c i n → run s w ≡ refused c i n 0 w
   run-first-fault-answered = run-refused s w
+
+  pub run-no-room-last : run s w .code ≡ 9 → (g : Forest) × (end n : ℕ) × Run s 0 g end n × (length w / 6 < size g) × (run s w ≡ refused 9 0 n (size g) w)
+  run-no-room-last = run-room-last s w
+
+  pub run-record-not-looked-at : (t : List ℕ) → run s w .code ≡ 8 → length t ≡ length s → take (run s w .at) t ≡ take (run s w .at) s → run t w ≡ run s w
+  run-record-not-looked-at t = run-eight-unseen s t w
 
 -- ==== the grammar: it knows no limit of depth (`Limit`), and its strings are RFC 3629's (`Characters`, by `Abnf`)
 pub depth-is-the-limit : (o : ℕ) (b : List ℕ) (f : Found) (k : ℕ)

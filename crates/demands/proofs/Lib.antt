@@ -19,6 +19,7 @@ pub mod Tries
 pub mod Tried
 pub mod RunItemised
 pub mod Unseen
+pub mod RunUnseen
 pub mod Calls
 pub mod Impostors
 pub mod Abnf

@@ -115,3 +115,19 @@ module _ (s w : List ℕ) where
       let x : only g ≡ only h = cc in
       let y : place end n ≡ place last m = cc in
       (ap (λ (f : Found). f .ranges) x, ap (λ (q : Place). q .at) y, ap (λ (q : Place). q .steps) y)
+
+-- ---- code 9 after all: only where there is a run by the grammar, for which the store has no room
+pub run-room-last : (s w : List ℕ) → run s w .code ≡ 9 → (g : Forest) × (end n : ℕ) × Run s 0 g end n × (room w < size g) × (run s w ≡ refused 9 0 n (size g) w)
+run-room-last s w z = go (run s w) (run-itemised s w) z
+  where
+    listed : (c i n : ℕ) → Told {A = Found} (stop c i n) → c ≤ 8
+    listed c i n (fault k) = k .1
+
+    go : (a : Answer) → Run-itemised s w a → a .code ≡ 9 → (g : Forest) × (end n : ℕ) × Run s 0 g end n × (room w < size g) × (a ≡ refused 9 0 n (size g) w)
+    go a (too-long h f) z = let k = ap (λ (b : Answer). b .code) f in absurd (omega (arith, k, z))
+    go a (faulty h c i n m f) z =
+        let k = ap (λ (b : Answer). b .code) f in
+        let j = listed c i n (subst Told (run-halt s w m) (run-told (length s) s (from 0))) in
+        absurd (omega (arith, k, z, j))
+    go a (no-room h g end n r k f) z = (g, end, n, r, k, f)
+    go a (whole h g end n r k) z = absurd (omega (arith, k .code, z))

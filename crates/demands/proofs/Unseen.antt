@@ -58,7 +58,7 @@ pub record Same (o a : ℕ) (b d : List ℕ) : Type 0 where
 
 module _ {o a : ℕ} {b d : List ℕ} (h : Same o a b d) (x y : List ℕ) (e : b ≡ x ++ y) (l : o + length x ≤ a) where
   -- a part before a is in both
-  same-front : d ≡ x ++ drop (length x) d
+  pub same-front : d ≡ x ++ drop (length x) d
   same-front =
       let f : take (length x) d ≡ x =
       sym (take-take (length x) (a - o) d (omega arith)) ∙ ap (λ (t : List ℕ). take (length x) t) (h .alike) ∙ take-take (length x) (a - o) b (omega arith)
@@ -66,7 +66,7 @@ module _ {o a : ℕ} {b d : List ℕ} (h : Same o a b d) (x y : List ℕ) (e : b
       sym (take-append-drop (length x) d) ∙ ap (λ (t : List ℕ). t ++ drop (length x) d) f
 
   -- and what is behind it is alike
-  same-back : Same (o + length x) a y (drop (length x) d)
+  pub same-back : Same (o + length x) a y (drop (length x) d)
   same-back =
       let m : length x + (a - (o + length x)) ≡ a - o = omega arith in
       let k = ap length e ∙ length-append x y in
@@ -117,7 +117,7 @@ payload-alike {o} {a} {b} {d} {x} {u} y h e q l m =
         }
 
 -- ---- a script that stops with code 8 stops so, whatever stands from there on
-unseen : {sc : Script} {o c a n : ℕ} {b : List ℕ} → Coded sc → Stops sc o b c a n → c ≡ 8 → (d : List ℕ) → Same o a b d → Stops sc o d c a n
+pub unseen : {sc : Script} {o c a n : ℕ} {b : List ℕ} → Coded sc → Stops sc o b c a n → c ≡ 8 → (d : List ℕ) → Same o a b d → Stops sc o d c a n
 unseen (refuses k) (barred e f g) z d h = barred e f g
 unseen {o = o} (stands k) (standing t) z d h = standing (unseen (k o) t z d h)
 unseen (reads i k) (no-item m e f) z d h = absurd (item-not-8 m i z)
