@@ -1,44 +1,27 @@
 -- Demand 2, for one datagram: it is accepted exactly when the grammar reads it with no record deeper than 8; there is one such reading, and
 -- the answer is that reading's. Assumes nothing.
-use Prim.Native.Nat.{ℕ, _+_, _*_, _/_, _≤_}
+use Prim.Native.Nat.{ℕ, _+_, _/_, _≤_}
 use mathlib.Core.Path.{_≡_, refl, sym, ap, _∙_}
 use mathlib.Core.Bool.{Bool, true, false, cond}
-use mathlib.Core.List.{List, _++_}
+use mathlib.Core.List.{List}
 use native.Mathlib.Omega.{arith}
 use native.Mathlib.Nat.{zero-add}
 use borrow.Author.Tests.{le-leb, leb-true}
 use lib.Dec.{leb}
-use lib.ListN.{length, drop, length-append}
+use lib.ListN.{length, length-append}
 use Rattle.reading.specs.Script.{Found}
 use Rattle.reading.specs.Cursor.{Place, Out, got, stop, follow}
-use Rattle.reading.specs.Grammar.{Is}
 use Rattle.reading.specs.Layout.{depth-limit, datagram-to, datagram}
-use Rattle.reading.specs.Answer.{limit, from, nobody, size, rows, room, header-of, Answer, refused, stored, one}
+use Rattle.reading.specs.Answer.{limit, from, size, room, header-of, Answer, refused, stored, one}
 use Rattle.reading.proofs.Stands.{place}
 use Rattle.reading.proofs.Complete.{complete}
 use Rattle.reading.proofs.Exactly.{accepted-is-read}
+use Rattle.demands.specs.Readings.{Reading, Allowed, Answers, Accepted}
 use Rattle.demands.proofs.Codes.{Told, fault, datagram-told}
 use Rattle.demands.proofs.Quarter.{one-size}
-use Rattle.demands.proofs.Depths.{Shallow, deeper}
+use Rattle.demands.specs.Depths.{Shallow}
+use Rattle.demands.proofs.Depths.{deeper}
 use Rattle.demands.proofs.Limit.{no-deeper, same-reading}
-
--- a reading of s by the grammar, of whatever depth: s begins with bytes that are a datagram, and `rest` is left over
-pub record Reading (s : List ℕ) (f : Found) (bytes items : ℕ) : Type 0 where
-  pub levels : ℕ
-  pub read : List ℕ
-  pub rest : List ℕ
-  pub joined : s ≡ read ++ rest
-  pub long : length read ≡ bytes
-  pub is : Is (datagram-to levels) 0 read f items
-
--- what is answered where that reading is accepted into the store w
-pub record Answers (w : List ℕ) (f : Found) (bytes items : ℕ) (a : Answer) : Type 0 where
-  pub code : a .code ≡ 0
-  pub at : a .at ≡ bytes
-  pub steps : a .steps ≡ items
-  pub needed : a .needed ≡ size (f .ranges)
-  pub head : a .head ≡ header-of (f .values)
-  pub store : a .store ≡ rows 0 nobody (f .ranges) ++ drop (6 * size (f .ranges)) w
 
 -- with so many levels, the cursor gives a reading that is no deeper
 pub given : (m : ℕ) (s : List ℕ) {f : Found} {n k : ℕ} → Reading s f n k → Shallow m (f .ranges) → follow (datagram-to m) s (place 0 0) ≡ got f (place n k)
@@ -56,11 +39,6 @@ one-reading s {f} {g} {n} {m} {k} {l} a b =
     let p : place n k ≡ place m l = cc in
     (cc, ap (λ (q : Place). q .at) p, ap (λ (q : Place). q .steps) p)
 
--- a reading, with no record deeper than 8
-pub record Allowed (s : List ℕ) (f : Found) (bytes items : ℕ) : Type 0 where
-  pub reading : Reading s f bytes items
-  pub shallow : Shallow depth-limit (f .ranges)
-
 module _ (s : List ℕ) where
   pub accepted-allowed : (a : Found) (q : Place) → follow datagram s (from 0) ≡ got a q → Allowed s a (q .at) (q .steps)
   accepted-allowed a q e =
@@ -74,14 +52,6 @@ module _ (s : List ℕ) where
   pub stored-answers : (w : List ℕ) (a : Found) (q : Place) → size (a .ranges) ≤ room w → Answers w a (q .at) (q .steps) (stored header-of (got a q) w)
   unfolding stored
   stored-answers w a q h = rw (le-leb (size (a .ranges)) (room w) h) (record { code = refl; at = refl; steps = refl; needed = refl; head = refl; store = refl })
-
--- what code 0 says
-pub record Accepted (s w : List ℕ) (a : Answer) : Type 0 where
-  pub found : Found
-  pub bytes : ℕ
-  pub items : ℕ
-  pub allowed : Allowed s found bytes items
-  pub answers : Answers w found bytes items a
 
 module _ (s w : List ℕ) where
   stored-accepted : (o : Out Found) → follow datagram s (from 0) ≡ o → Told o → stored header-of o w .code ≡ 0 → Accepted s w (stored header-of o w)

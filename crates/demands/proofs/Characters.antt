@@ -7,7 +7,7 @@ use native.Mathlib.Omega.{arith}
 use borrow.Author.Tests.{le-leb}
 use Rattle.reading.specs.Utf8.{_&_, _or_, among, tail, utf8-1, utf8-2, utf8-3, utf8-4, utf8}
 use Rattle.reading.proofs.Utf8.{among-bounds}
-use Rattle.demands.proofs.Abnf.{Byte, byte, _⨾_, joined, _∣_, first, second, none, more, UTF8-3, UTF8-4, UTF8-char, UTF8-octets}
+use Rattle.demands.specs.Abnf.{Byte, byte, _⨾_, joined, _∣_, first, second, none, more, UTF8-3, UTF8-4, UTF8-char, UTF8-octets}
 
 -- ---- tests, by what they say
 

@@ -9,24 +9,27 @@ use Rattle.reading.specs.Utf8.{utf8}
 use Rattle.reading.specs.Script.{Forest, Found}
 use Rattle.reading.specs.Grammar.{Is}
 use Rattle.reading.specs.Layout.{depth-limit, datagram-to, datagram}
-use Rattle.reading.specs.Answer.{limit, nobody, size, no-header, Answer, refused, one, run}
+use Rattle.reading.specs.Answer.{limit, nobody, size, no-header, Answer, refused, one, run, read}
 use Rattle.reading.proofs.Holding.{read-here}
 use Rattle.reading.proofs.Descriptors.{descriptor, Read-as}
-use Rattle.demands.proofs.Depths.{Shallow}
+use Rattle.demands.specs.Depths.{Shallow}
 use Rattle.demands.proofs.Limit.{no-deeper, same-reading}
-use Rattle.demands.proofs.Accepted.{Reading, Answers, one-reading, Allowed, Accepted, accepted-reads, reading-answers, reading-fits}
+use Rattle.demands.specs.Readings.{Reading, Answers, Allowed, Accepted}
+use Rattle.demands.proofs.Accepted.{one-reading, accepted-reads, reading-answers, reading-fits}
 use Rattle.demands.proofs.Fielded.{Fields-are}
-use Rattle.demands.proofs.Stops.{Stops}
-use Rattle.demands.proofs.Itemised.{Itemised, one-itemised, fault-refused, one-fault, no-fault, room-last, eight-unseen}
-use Rattle.demands.proofs.Tries.{Run, Run-stops}
-use Rattle.demands.proofs.RunItemised.{Run-answers, Run-itemised, run-itemised, Run-accepted, run-accepts, run-answered, run-refused, one-run, run-room-last}
+use Rattle.demands.specs.Stops.{Stops}
+use Rattle.demands.specs.Itemised.{Itemised}
+use Rattle.demands.proofs.Itemised.{one-itemised, fault-refused, one-fault, no-fault, room-last, eight-unseen}
+use Rattle.demands.specs.Tries.{Run, Run-stops}
+use Rattle.demands.specs.RunItemised.{Run-answers, Run-itemised, Run-accepted}
+use Rattle.demands.proofs.RunItemised.{run-itemised, run-accepts, run-answered, run-refused, one-run, run-room-last}
 use Rattle.demands.proofs.RunUnseen.{run-eight-unseen}
-use Rattle.demands.proofs.Nested.{end}
-use Rattle.demands.proofs.Siblings.{Inside}
-use Rattle.demands.proofs.Placed.{row}
+use Rattle.demands.specs.Nested.{end, Inside, row}
+use Rattle.demands.specs.FieldsItemised.{Fields-itemised}
+use Rattle.demands.proofs.FieldsItemised.{fields-itemised}
 use Rattle.demands.proofs.Calls.{Call, Public, kept, quartered, never-for-room, placed, fielded, stored-fields, too-long}
 use Rattle.demands.proofs.Impostors.{Equals, p2, refuses-all, answers-p2, writes-nothing, own-steps, run-invents}
-use Rattle.demands.proofs.Abnf.{UTF8-octets}
+use Rattle.demands.specs.Abnf.{UTF8-octets}
 use Rattle.demands.proofs.Characters.{test-by-rules, rules-by-test}
 
 -- ==== of both calls, for every input and every store
@@ -153,6 +156,11 @@ module _ (s w : List ℕ) where
 
   pub run-record-not-looked-at : (t : List ℕ) → run s w .code ≡ 8 → length t ≡ length s → take (run s w .at) t ≡ take (run s w .at) s → run t w ≡ run s w
   run-record-not-looked-at t = run-eight-unseen s t w
+
+-- ==== field reading (`FieldsItemised`), of a descriptor of this kind, format and range that is asked for these fields: every answer is one of
+-- five, too long, a range that passes the input, another kind or format, stopped after so many items, or read by the grammar
+pub fields-read-exactly : (ak af : ℕ) (s : List ℕ) (k f start extent : ℕ) → Fields-itemised ak af s k f start extent (read ak af s k f start extent)
+fields-read-exactly = fields-itemised
 
 -- ==== the grammar: it knows no limit of depth (`Limit`), and its strings are RFC 3629's (`Characters`, by `Abnf`)
 pub depth-is-the-limit : (o : ℕ) (b : List ℕ) (f : Found) (k : ℕ)

@@ -1,13 +1,9 @@
--- Ranges of which no flow record is deeper than so much. Assumes nothing.
+-- Ranges of which no flow record is deeper than so much: side by side, one inside another, and deeper still. Assumes nothing.
 use Prim.Native.Nat.{ℕ, _≤_}
 use mathlib.Core.Path.{_≡_}
 use native.Mathlib.Omega.{arith}
 use Rattle.reading.specs.Script.{Range, Forest, bare, tree, _⊕_}
-
--- no flow record (kind 2) of these ranges is deeper than m
-pub data Shallow (m : ℕ) : Forest → Type 0 where
-  none : Shallow m bare
-  also : {r : Range} {inner after : Forest} → (r .kind ≡ 2 → r .depth ≤ m) → Shallow m inner → Shallow m after → Shallow m (tree r inner after)
+use Rattle.demands.specs.Depths.{Shallow, none, also}
 
 pub joined : {m : ℕ} {f g : Forest} → Shallow m f → Shallow m g → Shallow m (f ⊕ g)
 joined none k = k

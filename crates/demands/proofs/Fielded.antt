@@ -8,7 +8,7 @@ use native.Mathlib.Omega.{arith}
 use native.Mathlib.Nat.{zero-add}
 use lib.ListN.{length, take, drop}
 use lib.Seq.{length-take-le}
-use Rattle.reading.specs.Script.{Value, Range, Forest, bare, Found}
+use Rattle.reading.specs.Script.{Value, Range, Forest}
 use Rattle.reading.specs.Cursor.{got, follow}
 use Rattle.reading.specs.Grammar.{Is}
 use Rattle.reading.specs.Values.{alone}
@@ -17,11 +17,8 @@ use Rattle.reading.proofs.Stands.{place, drop-take}
 use Rattle.reading.proofs.Fields.{fields-then}
 use Rattle.reading.proofs.Sound.{sound}
 use Rattle.reading.proofs.Holding.{read-here, up-to}
+use Rattle.demands.specs.FieldsItemised.{only-values}
 use Rattle.reading.proofs.Descriptors.{read-range, gave, Read-as, descriptor, stored-reading-accepts, stored-run-reading-accepts}
-
--- the values of a layout, and nothing else
-abbrev pub only-values : List Value → Found
-only-values vs = record { values = vs; ranges = bare }
 
 -- the range r begins with bytes that are its layout, of these values; and field reading answers just that
 pub record Fields-are (s : List ℕ) (r : Range) : Type 0 where

@@ -11,7 +11,7 @@ use Rattle.reading.specs.Cursor.{Place, Out, got, stop, read-opaque, read-item,
 use Rattle.reading.specs.Grammar.{Opaque, Is}
 use Rattle.reading.proofs.Stands.{place, Stands, opaque-there, payload-there, bytes-there, drop-take, held, front}
 use Rattle.reading.proofs.Complete.{complete}
-use Rattle.demands.proofs.Stops.{Stops, barred, standing, no-item, past-item, no-opaque, inside-it, past-it, among, past-all}
+use Rattle.demands.specs.Stops.{Stops, barred, standing, no-item, past-item, no-opaque, inside-it, past-it, among, past-all}
 use Rattle.demands.proofs.Stopping.{Left, part-stands, left-behind, opaque-missing, item-missing, item-read, many-read, many-stop}
 
 -- the same refusal, counted in two ways

@@ -14,23 +14,14 @@ use Rattle.reading.specs.Cursor.{Out, got, stop, follow}
 use Rattle.reading.specs.Layout.{depth-limit, datagram}
 use Rattle.reading.specs.Answer.{limit, from, size, room, header-of, Answer, refused, stored, one}
 use Rattle.reading.proofs.Items.{never}
+use Rattle.demands.specs.Itemised.{Itemised, too-long, faulty, no-room, whole}
 use Rattle.demands.proofs.Codes.{Told, fault, datagram-told}
-use Rattle.demands.proofs.Accepted.{Allowed, Answers, given, accepted-allowed, stored-answers}
-use Rattle.demands.proofs.Stops.{Stops}
+use Rattle.demands.specs.Readings.{Allowed}
+use Rattle.demands.proofs.Accepted.{given, accepted-allowed, stored-answers}
+use Rattle.demands.specs.Stops.{Stops}
 use Rattle.demands.proofs.Stopped.{stopped}
 use Rattle.demands.proofs.Halting.{halting}
 use Rattle.demands.proofs.Unseen.{record-unseen}
-
--- what each answer to s and w says of the reading of s
-pub data Itemised (s w : List ℕ) (a : Answer) : Type 0 where
-  -- s is too long: no item is read
-  too-long : limit < length s → a ≡ refused 1 0 0 0 w → Itemised s w a
-  -- the reading stops at a fault: the steps are the items before it
-  faulty : length s ≤ limit → (c i n : ℕ) → Stops datagram 0 s c i n → a ≡ refused c i n 0 w → Itemised s w a
-  -- there is a whole reading, for which the store has no room: the steps are its items, the descriptors needed are its ranges
-  no-room : length s ≤ limit → (f : Found) (bytes items : ℕ) → Allowed s f bytes items → room w < size (f .ranges) → a ≡ refused 9 0 items (size (f .ranges)) w → Itemised s w a
-  -- there is one, and the answer is that reading's
-  whole : length s ≤ limit → (f : Found) (bytes items : ℕ) → Allowed s f bytes items → Answers w f bytes items a → Itemised s w a
 
 module _ (s w : List ℕ) where
   short-itemised : length s ≤ limit → (o : Out Found) → follow datagram s (from 0) ≡ o → Itemised s w (stored header-of o w)

@@ -9,7 +9,8 @@ use lib.Dec.{eqb}
 use Rattle.reading.specs.Script.{Value, Found, nothing, Item, Script, give, here, item, repeat}
 use Rattle.reading.specs.Grammar.{Many, Is}
 use Rattle.reading.specs.Layout.{num, Field, plain, mac, addr, list, segments, address-of, run-of, field, fields, Row, _⟼_, _⟼_each_, last-number, opened, ranged, between, framed, pdu, flows, flow, counter, samples, sample, header, datagram-to}
-use Rattle.demands.proofs.Depths.{Shallow, none, also, joined, front, back, inner-shallow, own-depth}
+use Rattle.demands.specs.Depths.{Shallow, none, also}
+use Rattle.demands.proofs.Depths.{joined, front, back, inner-shallow, own-depth}
 
 -- of what `a` is read as: it is no deeper than n, and where it is no deeper than m, `b` is read as the same
 record Both (n m : ℕ) (a b : Script) : Type 0 where

@@ -8,10 +8,11 @@ use native.Mathlib.Omega.{arith}
 use native.Mathlib.Nat.{le-refl}
 use lib.Dec.{eqb, leb}
 use lib.ListN.{length, take}
-use Rattle.reading.specs.Script.{Span, Value, Range, Forest, bare, tree, _⊕_, Found, nothing, Script, give}
+use Rattle.reading.specs.Script.{Value, Forest, _⊕_, Found, nothing, Script, give}
 use Rattle.reading.specs.Cursor.{Place, Out, got, stop, Reader, times, follow}
 use Rattle.reading.specs.Layout.{Field, fields, Row, _⟼_, _⟼_each_, last-number, opened, ranged, between, framed, pdu, flows, flow, counter, samples, sample, header, depth-limit, datagram-to, datagram}
 use Rattle.reading.specs.Answer.{tried, datagrams}
+use Rattle.demands.specs.Nested.{end, Nested, none, next}
 use Rattle.reading.proofs.Items.{never, split}
 use Rattle.reading.proofs.Stands.{place}
 use Rattle.reading.proofs.Bounds.{Owes, owes}
@@ -20,15 +21,6 @@ use Rattle.reading.proofs.Faults.{either}
 use Rattle.reading.proofs.Counts.{repeat-is}
 use Rattle.reading.proofs.Frames.{Frame, frame-read, span-length, Pdu, pdu-read}
 use Rattle.reading.proofs.Room.{whole, datagram-is, header-on}
-
--- where a range ends
-abbrev pub end : Span → ℕ
-end x = x .start + x .count
-
--- the ranges of a forest lie between lo and hi, one after another, and in each lie those inside it
-pub data Nested : (lo hi : ℕ) → Forest → Type 0 where
-  none : {lo hi : ℕ} → lo ≤ hi → Nested lo hi bare
-  next : {lo hi : ℕ} {r : Range} {inner after : Forest} → lo ≤ r .span .start → Nested (r .span .start) (end (r .span)) inner → Nested (end (r .span)) hi after → Nested lo hi (tree r inner after)
 
 pub forward : {lo hi : ℕ} {f : Forest} → Nested lo hi f → lo ≤ hi
 forward (none h) = h

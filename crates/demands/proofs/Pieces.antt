@@ -17,7 +17,7 @@ use Rattle.reading.specs.Grammar.{Opaque, Is-item, Many, Is}
 use Rattle.reading.proofs.Items.{never}
 use Rattle.reading.proofs.Stands.{Stands, payload-there, bytes-there}
 use Rattle.reading.proofs.Sound.{sound}
-use Rattle.demands.proofs.Stops.{No-opaque, no-length, too-long, cut, No-item, no-word, no-tested, failed, no-long, no-int, no-block, no-part, no-string, not-utf8}
+use Rattle.demands.specs.Stops.{No-opaque, no-length, too-long, cut, No-item, no-word, no-tested, failed, no-long, no-int, no-block, no-part, no-string, not-utf8}
 
 pub behind : {s x y : List ℕ} (o : ℕ) → Stands s o x y → drop (o + length x) s ≡ y
 behind {s} {x} {y} o h = sym (drop-drop (length x) o s) ∙ ap (λ (l : List ℕ). drop (length x) l) (h .there) ∙ drop-at x y (length x) refl

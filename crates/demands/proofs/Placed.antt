@@ -18,11 +18,9 @@ use Rattle.reading.proofs.Stored.{rows-length}
 use Rattle.reading.proofs.Descriptors.{entry}
 use Rattle.demands.proofs.Codes.{Told, fault, datagram-told, run-told}
 use Rattle.demands.proofs.Quarter.{one-size, run-size}
-use Rattle.demands.proofs.Nested.{end, Nested, datagram-nested, run-nested}
-use Rattle.demands.proofs.Siblings.{Row, Inside, In, this, within, behind, Parent, own, before, parted, Outside, over, parent-holds, siblings-apart}
-
-unfoldable pub row : (store : List ℕ) → (index : ℕ) → Row
-row w i = record { span = record { start = entry w i 2; count = entry w i 3 }; parent = entry w i 4 }
+use Rattle.demands.specs.Nested.{Nested, Row, row, In-place}
+use Rattle.demands.proofs.Nested.{datagram-nested, run-nested}
+use Rattle.demands.proofs.Siblings.{In, this, within, behind, Parent, own, before, parted, Outside, over, parent-holds, siblings-apart}
 
 same : (v w : List ℕ) (i j : ℕ) → ((k : ℕ) → entry v i k ≡ entry w j k) → row v i ≡ row w j
 unfolding row
@@ -54,14 +52,6 @@ stands-in (tree r a b) j p (suc i) k rest h e =
         → (size a ≤ i → u ≡ v) → (t : Bool) → leb (size a) i ≡ t → In (tree r a b) j p k u
     go f g q false t = within (f (omega (arith, leb-false)))
     go f g q true t = let l : size a ≤ i = leb-true (size a) i t in subst (In (tree r a b) j p k) (sym (q l)) (behind (g (omega arith) (omega arith)))
-
--- the descriptors of a store, so many of them, are in place
-pub record In-place (w : List ℕ) (n : ℕ) : Type 0 where
-  -- one whose parent is not nobody has it before itself, and lies inside it
-  pub parent-before : (i : ℕ) → i < n → (row w i .parent ≡ nobody → ⊥) → row w i .parent < i
-  pub parent-holds : (i : ℕ) → i < n → (row w i .parent ≡ nobody → ⊥) → Inside (row w i .span) (row w (row w i .parent) .span)
-  -- of two with one parent the second starts at or after the end of the first
-  pub siblings-apart : (i k : ℕ) → i < k → k < n → row w i .parent ≡ row w k .parent → end (row w i .span) ≤ row w k .span .start
 
 module _ (f : Forest) {lo hi : ℕ} (nested : Nested lo hi f) (few : size f ≤ nobody) (rest : List ℕ) where
   listed : (i : ℕ) → i < size f → In f 0 nobody i (row (rows 0 nobody f ++ rest) i)

@@ -1,40 +1,24 @@
 -- Demands 2 and 3 of what a run answers: code 0 exactly when there is a run by the grammar, whose ranges, end and items are answered; and on a refusal
 -- the items up to the fault. Assumes nothing.
-use Prim.Native.Nat.{ℕ, _*_, _≤_, _<_}
+use Prim.Native.Nat.{ℕ, _≤_, _<_}
 use mathlib.Core.Path.{_≡_, refl, sym, ap, _∙_, subst}
 use mathlib.Core.Bool.{Bool, true, false, cond}
-use mathlib.Core.List.{List, _++_}
+use mathlib.Core.List.{List}
 use native.Mathlib.Omega.{arith}
 use native.Mathlib.Nat.{zero-add}
 use borrow.Author.Tests.{le-leb, lt-leb, leb-true, leb-false}
 use lib.Dec.{leb}
-use lib.ListN.{length, drop}
+use lib.ListN.{length}
 use Rattle.reading.specs.Script.{Forest, Found}
 use Rattle.reading.specs.Cursor.{Place, Out, got, stop}
 use Rattle.reading.specs.Layout.{only}
-use Rattle.reading.specs.Answer.{limit, from, nobody, size, rows, room, no-header, Answer, refused, stored, datagrams, run}
+use Rattle.reading.specs.Answer.{limit, from, size, room, no-header, Answer, refused, stored, datagrams, run}
 use Rattle.reading.proofs.Stands.{place}
 use Rattle.reading.proofs.Runs.{run-from}
+use Rattle.demands.specs.RunItemised.{Run-answers, Run-accepted, Run-itemised, too-long, faulty, no-room, whole}
 use Rattle.demands.proofs.Codes.{Told, fine, fault, run-told}
-use Rattle.demands.proofs.Tries.{Run, Run-stops}
+use Rattle.demands.specs.Tries.{Run, Run-stops}
 use Rattle.demands.proofs.Tried.{Tried, done, halted, run-tried, run-read, run-stopped}
-
--- what is answered where a run of these ranges is accepted into the store w
-pub record Run-answers (w : List ℕ) (g : Forest) (end items : ℕ) (a : Answer) : Type 0 where
-  pub code : a .code ≡ 0
-  pub at : a .at ≡ end
-  pub steps : a .steps ≡ items
-  pub needed : a .needed ≡ size g
-  pub head : a .head ≡ no-header
-  pub store : a .store ≡ rows 0 nobody g ++ drop (6 * size g) w
-
--- what each answer to s and w says of the run
-pub data Run-itemised (s w : List ℕ) (a : Answer) : Type 0 where
-  too-long : limit < length s → a ≡ refused 1 0 0 0 w → Run-itemised s w a
-  -- a datagram stops with another code than 2: the steps are the items of every datagram tried, up to that fault
-  faulty : length s ≤ limit → (c i n : ℕ) → Run-stops s 0 c i n → a ≡ refused c i n 0 w → Run-itemised s w a
-  no-room : length s ≤ limit → (g : Forest) (end n : ℕ) → Run s 0 g end n → room w < size g → a ≡ refused 9 0 n (size g) w → Run-itemised s w a
-  whole : length s ≤ limit → (g : Forest) (end n : ℕ) → Run s 0 g end n → Run-answers w g end n a → Run-itemised s w a
 
 module _ (w : List ℕ) where
   stored-run : (a : Found) (q : Place) → size (a .ranges) ≤ room w → Run-answers w (a .ranges) (q .at) (q .steps) (stored (λ _. no-header) (got a q) w)
@@ -61,28 +45,21 @@ module _ (s w : List ℕ) where
 
   -- ---- where the code is 0
 
-  pub record Run-accepted (a : Answer) : Type 0 where
-    pub ranges : Forest
-    pub end : ℕ
-    pub items : ℕ
-    pub is : Run s 0 ranges end items
-    pub answers : Run-answers w ranges end items a
-
-  run-zero : (o : Out Found) → Told o → Tried s (from 0) o → stored (λ _. no-header) o w .code ≡ 0 → Run-accepted (stored (λ _. no-header) o w)
+  run-zero : (o : Out Found) → Told o → Tried s (from 0) o → stored (λ _. no-header) o w .code ≡ 0 → Run-accepted s w (stored (λ _. no-header) o w)
   unfolding stored
   run-zero (stop c i m) (fault k) t z = absurd (omega arith)
   run-zero (got a q) fine (done n e t) z = go (leb (size (a .ranges)) (room w)) refl z (subst (λ (k : ℕ). Run s 0 (a .ranges) (q .at) k) (sym (e ∙ zero-add n)) t)
     where
-      go : (b : Bool) → leb (size (a .ranges)) (room w) ≡ b → stored (λ _. no-header) (got a q) w .code ≡ 0 → Run s 0 (a .ranges) (q .at) (q .steps) → Run-accepted (stored (λ _. no-header) (got a q) w)
+      go : (b : Bool) → leb (size (a .ranges)) (room w) ≡ b → stored (λ _. no-header) (got a q) w .code ≡ 0 → Run s 0 (a .ranges) (q .at) (q .steps) → Run-accepted s w (stored (λ _. no-header) (got a q) w)
       go true b z t = record { ranges = a .ranges; end = q .at; items = q .steps; is = t; answers = stored-run w a q (leb-true _ _ b) }
       go false b z t = let x : _≡_ {A = ℕ} 9 0 = rw b at z in absurd (omega arith)
 
-  pub run-accepts : run s w .code ≡ 0 → Run-accepted (run s w)
+  pub run-accepts : run s w .code ≡ 0 → Run-accepted s w (run s w)
   unfolding run
   run-accepts = go (leb (length s) limit)
     where
       go : (b : Bool) → cond b (stored (λ _. no-header) (datagrams (length s) s (from 0)) w) (refused 1 0 0 0 w) .code ≡ 0
-          → Run-accepted (cond b (stored (λ _. no-header) (datagrams (length s) s (from 0)) w) (refused 1 0 0 0 w))
+          → Run-accepted s w (cond b (stored (λ _. no-header) (datagrams (length s) s (from 0)) w) (refused 1 0 0 0 w))
       go true z = run-zero (datagrams (length s) s (from 0)) (run-told (length s) s (from 0)) (run-tried (length s) s (from 0) (omega arith) (omega arith)) z
       go false z = absurd (omega arith)
 

@@ -10,8 +10,9 @@ use Rattle.reading.specs.Answer.{Answer, run}
 use Rattle.reading.proofs.Stands.{drop-take}
 use Rattle.demands.proofs.Codes.{coded-datagram}
 use Rattle.demands.proofs.Unseen.{spans, Same, same-front, unseen}
-use Rattle.demands.proofs.Tries.{Datagram-at, Run-stops, this, later}
-use Rattle.demands.proofs.RunItemised.{Run-itemised, too-long, faulty, no-room, whole, run-itemised, run-refused}
+use Rattle.demands.specs.Tries.{Datagram-at, Run-stops, this, later}
+use Rattle.demands.specs.RunItemised.{Run-itemised, too-long, faulty, no-room, whole}
+use Rattle.demands.proofs.RunItemised.{run-itemised, run-refused}
 
 -- a run stops no sooner than it starts
 run-spans : {s : List ℕ} {at c i n : ℕ} → Run-stops s at c i n → at ≤ i

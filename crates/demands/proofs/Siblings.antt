@@ -3,18 +3,10 @@
 use Prim.Native.Nat.{ℕ, _+_, _≤_, _<_}
 use mathlib.Core.Path.{_≡_, refl}
 use native.Mathlib.Omega.{arith}
-use Rattle.reading.specs.Script.{Span, Range, Forest, tree}
+use Rattle.reading.specs.Script.{Range, Forest, tree}
 use Rattle.reading.specs.Answer.{size}
-use Rattle.demands.proofs.Nested.{end, Nested, next, forward}
-
--- what a descriptor says of its place: its range, and its parent's index
-pub record Row : Type 0 where
-  pub span : Span
-  pub parent : ℕ
-
--- one range lies inside another
-abbrev pub Inside : Span → Span → Type 0
-Inside x y = (y .start ≤ x .start) × (end x ≤ end y)
+use Rattle.demands.specs.Nested.{end, Nested, next, Row, Inside}
+use Rattle.demands.proofs.Nested.{forward}
 
 -- in a forest whose first index is j and whose parent is p, the descriptor with index i is this one
 pub data In : Forest → (j p i : ℕ) → Row → Type 0 where

@@ -12,7 +12,7 @@ use Rattle.reading.specs.Grammar.{Is}
 use Rattle.reading.proofs.Items.{never}
 use Rattle.reading.proofs.Stands.{place, Stands}
 use Rattle.reading.proofs.Sound.{Read, sound}
-use Rattle.demands.proofs.Stops.{Stops, barred, standing, no-item, past-item, no-opaque, inside-it, past-it, among, past-all}
+use Rattle.demands.specs.Stops.{Stops, barred, standing, no-item, past-item, no-opaque, inside-it, past-it, among, past-all}
 use Rattle.demands.proofs.Pieces.{behind, Item-there, item-there, Many-there, many-there, stop-as, opaque-short, item-short}
 use Rattle.demands.proofs.Enclosed.{Span-there, span-there, held, held-is, held-fits, some}
 

@@ -15,7 +15,7 @@ use Rattle.reading.proofs.Items.{split}
 use Rattle.reading.proofs.Stands.{place, Stands, opaque-there, payload-there, bytes-there}
 use Rattle.reading.proofs.Complete.{complete}
 use Rattle.reading.proofs.Counts.{repeat-is}
-use Rattle.demands.proofs.Stops.{No-opaque, no-length, too-long, cut, No-item, no-word, no-tested, failed, no-long, no-int, no-block, no-part, no-string, not-utf8}
+use Rattle.demands.specs.Stops.{No-opaque, no-length, too-long, cut, No-item, no-word, no-tested, failed, no-long, no-int, no-block, no-part, no-string, not-utf8}
 use Rattle.demands.proofs.Pieces.{behind, word-drop, shown, same-shown}
 
 -- b is what is left of s at o

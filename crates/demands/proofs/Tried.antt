@@ -18,10 +18,10 @@ use Rattle.reading.proofs.Complete.{complete}
 use Rattle.reading.proofs.Room.{datagram-on}
 use Rattle.reading.proofs.Runs.{run-from, run-over, run-on}
 use Rattle.demands.proofs.Limit.{no-deeper, same-reading}
-use Rattle.demands.proofs.Stops.{Stops}
+use Rattle.demands.specs.Stops.{Stops}
 use Rattle.demands.proofs.Stopped.{stopped}
 use Rattle.demands.proofs.Halting.{halting}
-use Rattle.demands.proofs.Tries.{Datagram-at, Run, over, next, cut, Run-stops, this, later}
+use Rattle.demands.specs.Tries.{Datagram-at, Run, over, next, cut, Run-stops, this, later}
 
 -- ---- what the cursor answers is a run by the grammar
 

@@ -14,7 +14,7 @@ use Rattle.reading.specs.Grammar.{Opaque}
 use Rattle.reading.specs.Layout.{depth-limit, datagram}
 use Rattle.reading.proofs.Stands.{drop-take}
 use Rattle.demands.proofs.Codes.{item-listed, test-code, Coded, refuses, stands, reads, opens, repeats, coded-datagram}
-use Rattle.demands.proofs.Stops.{No-opaque, no-length, too-long, cut, No-item, no-word, no-tested, failed, no-long, no-int, no-block, no-part, no-string, not-utf8, Stops, barred, standing, no-item, past-item, no-opaque, inside-it, past-it, among, past-all}
+use Rattle.demands.specs.Stops.{No-opaque, no-length, too-long, cut, No-item, no-word, no-tested, failed, no-long, no-int, no-block, no-part, no-string, not-utf8, Stops, barred, standing, no-item, past-item, no-opaque, inside-it, past-it, among, past-all}
 
 -- a reading stops no sooner than it starts, and no later than what encloses it ends
 pub spans : {sc : Script} {o c a n : ℕ} {b : List ℕ} → Stops sc o b c a n → (o ≤ a) × (a ≤ o + length b)

@@ -6,8 +6,8 @@ use lib.ListN.{length, drop}
 use Rattle.reading.specs.Script.{Forest, bare, _⊕_, Found}
 use Rattle.reading.specs.Grammar.{Is}
 use Rattle.reading.specs.Layout.{depth-limit, datagram-to, datagram}
-use Rattle.demands.proofs.Depths.{Shallow}
-use Rattle.demands.proofs.Stops.{Stops}
+use Rattle.demands.specs.Depths.{Shallow}
+use Rattle.demands.specs.Stops.{Stops}
 
 -- the grammar reads a datagram at this place of s, with no record deeper than 8
 pub record Datagram-at (s : List ℕ) (at : ℕ) (f : Found) (bytes items : ℕ) : Type 0 where

@@ -1,0 +1,32 @@
+-- What each answer of field reading says, in the grammar's terms. Definitions only. Assumes nothing.
+use Prim.Native.Nat.{ℕ, _+_, _≤_, _<_}
+use mathlib.Core.Path.{_≡_}
+use mathlib.Core.List.{List, _++_}
+use lib.ListN.{length, take, drop}
+use Rattle.reading.specs.Script.{Value, bare, Found}
+use Rattle.reading.specs.Grammar.{Is}
+use Rattle.reading.specs.Layout.{Field}
+use Rattle.reading.specs.Values.{zeros, alone}
+use Rattle.reading.specs.Answer.{limit, layout-of, Fields}
+use Rattle.demands.specs.Stops.{Stops}
+
+-- the values of a layout, and nothing else
+abbrev pub only-values : List Value → Found
+only-values vs = record { values = vs; ranges = bare }
+
+-- a refusal: every field is zero
+abbrev pub no-fields : List Field → (code at steps : ℕ) → Fields
+no-fields l c i n = record { code = c; at = i; steps = n; values = zeros l }
+
+-- what the reading of layout l says that starts at `start`, with b as what encloses it
+pub data Held (l : List Field) (start : ℕ) (b : List ℕ) (a : Fields) : Type 0 where
+  read-whole : (vs : List Value) (items : ℕ) (bytes rest : List ℕ) → b ≡ bytes ++ rest → Is (alone l) start bytes (only-values vs) items
+      → a ≡ record { code = 0; at = start + length bytes; steps = items; values = vs } → Held l start b a
+  stopped-at : (c i n : ℕ) → Stops (alone l) start b c i n → a ≡ no-fields l c i n → Held l start b a
+
+-- what each answer says, to a descriptor of this kind, format and range, asked for the fields of another kind and format
+pub data Fields-itemised (ak af : ℕ) (s : List ℕ) (k f start extent : ℕ) (a : Fields) : Type 0 where
+  too-long : limit < length s → a ≡ no-fields (layout-of ak af) 1 0 0 → Fields-itemised ak af s k f start extent a
+  passes : length s ≤ limit → length s < start + extent → a ≡ no-fields (layout-of ak af) 10 0 0 → Fields-itemised ak af s k f start extent a
+  other : length s ≤ limit → start + extent ≤ length s → ((k ≡ ak) × (f ≡ af) → ⊥) → a ≡ no-fields (layout-of ak af) 11 0 0 → Fields-itemised ak af s k f start extent a
+  held : length s ≤ limit → start + extent ≤ length s → k ≡ ak → f ≡ af → Held (layout-of ak af) start (take extent (drop start s)) a → Fields-itemised ak af s k f start extent a

@@ -1,0 +1,9 @@
+pub mod Depths
+pub mod Nested
+pub mod Stops
+pub mod Readings
+pub mod Tries
+pub mod Itemised
+pub mod RunItemised
+pub mod FieldsItemised
+pub mod Abnf
