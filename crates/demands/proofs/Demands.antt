@@ -62,11 +62,15 @@ module _ {c : Call} (p : Public c) (s w : List ℕ) where
   pub quarter-suffices : length s / 4 ≤ length w / 6 → c s w .code ≡ 9 → ⊥
   quarter-suffices = never-for-room p s w
 
-  -- ---- demand 3, nesting (`Placed`, `Siblings`, `Nested`): in an accepted input a child lies inside its parent, which stands before it
-  pub parent-before : c s w .code ≡ 0 → (i : ℕ) → i < c s w .needed → (row (c s w .store) i .parent ≡ nobody → ⊥) → row (c s w .store) i .parent < i
+  -- ---- demand 3, nesting (`Placed`, `Siblings`, `Nested`): in an accepted input a datagram's descriptor has no parent, and any other lies inside its
+  -- parent, which stands before it
+  pub datagram-has-no-parent : c s w .code ≡ 0 → (i : ℕ) → i < c s w .needed → row (c s w .store) i .kind ≡ 0 → row (c s w .store) i .parent ≡ nobody
+  datagram-has-no-parent z = placed p s w z .no-parent
+
+  pub parent-before : c s w .code ≡ 0 → (i : ℕ) → i < c s w .needed → (row (c s w .store) i .kind ≡ 0 → ⊥) → row (c s w .store) i .parent < i
   parent-before z = placed p s w z .parent-before
 
-  pub child-inside-parent : c s w .code ≡ 0 → (i : ℕ) → i < c s w .needed → (row (c s w .store) i .parent ≡ nobody → ⊥)
+  pub child-inside-parent : c s w .code ≡ 0 → (i : ℕ) → i < c s w .needed → (row (c s w .store) i .kind ≡ 0 → ⊥)
       → Inside (row (c s w .store) i .span) (row (c s w .store) (row (c s w .store) i .parent) .span)
   child-inside-parent z = placed p s w z .parent-holds
 

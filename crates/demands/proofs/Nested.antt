@@ -1,6 +1,6 @@
 -- Demand 3: in an accepted input each child's range lies inside its parent's, and a sibling starts at or after the end of the one before.
 -- Said of the forest of ranges, by frames; `Placed` says it of the store. Assumes nothing.
-use Prim.Native.Nat.{ℕ, zero, suc, _+_, _-_, _≤_}
+use Prim.Native.Nat.{ℕ, zero, suc, _+_, _-_, _≤_, _<_}
 use mathlib.Core.Path.{_≡_, refl, sym, _∙_, subst}
 use mathlib.Core.Bool.{Bool, true, false, cond}
 use mathlib.Core.List.{List, [], _∷_}
@@ -12,7 +12,7 @@ use Rattle.reading.specs.Script.{Value, Forest, _⊕_, Found, nothing, Script, 
 use Rattle.reading.specs.Cursor.{Place, Out, got, stop, Reader, times, follow}
 use Rattle.reading.specs.Layout.{Field, fields, Row, _⟼_, _⟼_each_, last-number, opened, ranged, between, framed, pdu, flows, flow, counter, samples, sample, header, depth-limit, datagram-to, datagram}
 use Rattle.reading.specs.Answer.{tried, datagrams}
-use Rattle.demands.specs.Nested.{end, Nested, none, next}
+use Rattle.demands.specs.Nested.{end, Level, top, inside, Kind-at, Nested, none, next}
 use Rattle.reading.proofs.Items.{never, split}
 use Rattle.reading.proofs.Stands.{place}
 use Rattle.reading.proofs.Bounds.{Owes, owes}
@@ -22,28 +22,28 @@ use Rattle.reading.proofs.Counts.{repeat-is}
 use Rattle.reading.proofs.Frames.{Frame, frame-read, span-length, Pdu, pdu-read}
 use Rattle.reading.proofs.Room.{whole, datagram-is, header-on}
 
-pub forward : {lo hi : ℕ} {f : Forest} → Nested lo hi f → lo ≤ hi
+pub forward : {v : Level} {lo hi : ℕ} {f : Forest} → Nested v lo hi f → lo ≤ hi
 forward (none h) = h
-forward (next {r = r} h i j) = let a = forward i in let b = forward j in omega arith
+forward (next {r = r} k h i j) = let a = forward i in let b = forward j in omega arith
 
 -- from further before
-pub sooner : {lo hi : ℕ} {f : Forest} (m : ℕ) → m ≤ lo → Nested lo hi f → Nested m hi f
+pub sooner : {v : Level} {lo hi : ℕ} {f : Forest} (m : ℕ) → m ≤ lo → Nested v lo hi f → Nested v m hi f
 sooner {hi = hi} m k (none h) = let z : m ≤ hi = omega arith in none z
-sooner m k (next {r = r} h i j) = let z : m ≤ r .span .start = omega arith in next z i j
+sooner m k (next {r = r} l h i j) = let z : m ≤ r .span .start = omega arith in next l z i j
 
 -- to further behind
-pub later : {lo hi : ℕ} {f : Forest} (m : ℕ) → hi ≤ m → Nested lo hi f → Nested lo m f
-later {lo} m k (none h) = let z : lo ≤ m = omega arith in none z
-later m k (next h i j) = next h i (later m k j)
+pub later : {v : Level} {lo hi : ℕ} {f : Forest} (m : ℕ) → hi ≤ m → Nested v lo hi f → Nested v lo m f
+later {lo = lo} m k (none h) = let z : lo ≤ m = omega arith in none z
+later m k (next l h i j) = next l h i (later m k j)
 
-pub joined : {lo m hi : ℕ} {f g : Forest} → Nested lo m f → Nested m hi g → Nested lo hi (f ⊕ g)
-joined {lo} (none h) k = sooner lo h k
-joined (next h i j) k = next h i (joined j k)
+pub joined : {v : Level} {lo m hi : ℕ} {f g : Forest} → Nested v lo m f → Nested v m hi g → Nested v lo hi (f ⊕ g)
+joined {lo = lo} (none h) k = sooner lo h k
+joined (next l h i j) k = next l h i (joined j k)
 
 -- ---- what a reader accepts, it found between where it began and where it ended
 
-abbrev Orderly : Reader Found → Type 0
-Orderly r = (s : List ℕ) (p : Place) (a : Found) (q : Place) → p .at ≤ length s → r s p ≡ got a q → Nested (p .at) (q .at) (a .ranges)
+abbrev pub Orderly : Level → Reader Found → Type 0
+Orderly v r = (s : List ℕ) (p : Place) (a : Found) (q : Place) → p .at ≤ length s → r s p ≡ got a q → Nested v (p .at) (q .at) (a .ranges)
 
 -- a script goes forward, and stays inside
 onward : (sc : Script) (s : List ℕ) (p : Place) {a : Found} {q : Place} → p .at ≤ length s → follow sc s p ≡ got a q → (p .at ≤ q .at) × (q .at ≤ length s)
@@ -54,17 +54,17 @@ fields-onward : (l : List Field) (s : List ℕ) (p : Place) {vs : List Value} {q
 unfolding follow
 fields-onward l s p {q = q} h e = onward (fields l (λ _. give nothing)) s p {a = nothing} {q = q} h (fields-then l (λ _. give nothing) s p ∙ rw e)
 
-moved : {lo : ℕ} {a b : Found} {p q : Place} → got a p ≡ got b q → Nested lo (p .at) (a .ranges) → Nested lo (q .at) (b .ranges)
-moved {lo} {a} {b} {p} {q} e h =
+moved : {v : Level} {lo : ℕ} {a b : Found} {p q : Place} → got a p ≡ got b q → Nested v lo (p .at) (a .ranges) → Nested v lo (q .at) (b .ranges)
+moved {v} {lo} {a} {b} {p} {q} e h =
     let x : a ≡ b = cc in
     let y : p ≡ q = cc in
-    subst (λ (c : Found). Nested lo (q .at) (c .ranges)) x (subst (λ (r : Place). Nested lo (r .at) (a .ranges)) y h)
+    subst (λ (c : Found). Nested v lo (q .at) (c .ranges)) x (subst (λ (r : Place). Nested v lo (r .at) (a .ranges)) y h)
 
-orderly-none : Orderly (follow (give nothing))
+orderly-none : Orderly inside (follow (give nothing))
 unfolding follow
 orderly-none s p a q h e = moved e (none (le-refl _))
 
-orderly-times : (sc : Script) → Orderly (follow sc) → (n : ℕ) → Orderly (times n (follow sc))
+orderly-times : (sc : Script) → Orderly inside (follow sc) → (n : ℕ) → Orderly inside (times n (follow sc))
 unfolding times
 orderly-times sc o zero s p a q h e = moved e (none (le-refl _))
 orderly-times sc o (suc n) s p a q h e =
@@ -73,7 +73,7 @@ orderly-times sc o (suc n) s p a q h e =
     let i = onward sc s p h (w .first) in
     moved (v .second) (joined (o s p (w .value) (w .place) h (w .first)) (orderly-times sc o n s (w .place) (v .value) (v .place) (i .1) (v .first)))
 
-orderly-fields : (l : List Field) (more : List Value → Script) → ((vs : List Value) → Orderly (follow (more vs))) → Orderly (follow (fields l more))
+orderly-fields : (l : List Field) (more : List Value → Script) → ((vs : List Value) → Orderly inside (follow (more vs))) → Orderly inside (follow (fields l more))
 orderly-fields l more o s p a q h e =
     let w = split (fields-out l s p) _ (sym (fields-then l more s p) ∙ e) in
     let i = fields-onward l s p h (w .first) in
@@ -82,21 +82,21 @@ orderly-fields l more o s p a q h e =
 data Rows : List Row → Type 0 where
   over : Rows []
   flat : {g : ℕ} {l : List Field} {rest : List Row} → Rows rest → Rows ((g ⟼ l) ∷ rest)
-  counts : {g : ℕ} {l : List Field} {body : Script} {rest : List Row} → Orderly (follow body) → Rows rest → Rows ((g ⟼ l each body) ∷ rest)
+  counts : {g : ℕ} {l : List Field} {body : Script} {rest : List Row} → Orderly inside (follow body) → Rows rest → Rows ((g ⟼ l each body) ∷ rest)
 
-orderly-opened : {rows : List Row} → Rows rows → (f : ℕ) → Orderly (follow (opened rows f))
+orderly-opened : {rows : List Row} → Rows rows → (f : ℕ) → Orderly inside (follow (opened rows f))
 unfolding opened
 orderly-opened over f = orderly-none
-orderly-opened (flat {g} {l} t) f = either (λ (sc : Script). Orderly (follow sc)) (eqb g f) (orderly-fields l _ (λ vs. orderly-none)) (orderly-opened t f)
+orderly-opened (flat {g} {l} t) f = either (λ (sc : Script). Orderly inside (follow sc)) (eqb g f) (orderly-fields l _ (λ vs. orderly-none)) (orderly-opened t f)
 orderly-opened (counts {g} {l} {body} o t) f =
-    either (λ (sc : Script). Orderly (follow sc)) (eqb g f)
+    either (λ (sc : Script). Orderly inside (follow sc)) (eqb g f)
     (orderly-fields l _ (λ vs s p a q h e. orderly-times body o (last-number vs) s p a q h (sym (repeat-is (last-number vs) body s p) ∙ e)))
     (orderly-opened t f)
 
 -- ---- frames
 
-orderly-framed : (kind depth : ℕ) (body : ℕ → Script) → ((f : ℕ) → Orderly (follow (body f))) → Orderly (follow (framed kind depth body))
-orderly-framed kind depth body o s p a q h e = go (frame-read kind depth body s p e)
+orderly-framed : (kind depth : ℕ) (body : ℕ → Script) → 0 < kind → ((f : ℕ) → Orderly inside (follow (body f))) → Orderly inside (follow (framed kind depth body))
+orderly-framed kind depth body z o s p a q h e = go (frame-read kind depth body s p e)
   where
     at-start : (f : Frame kind depth body s p a q) → p .at ≤ f .span .start
     at-start f = omega (arith, f .start)
@@ -104,72 +104,75 @@ orderly-framed kind depth body o s p a q h e = go (frame-read kind depth body s 
     at-end : (f : Frame kind depth body s p a q) → end (f .span) ≤ q .at
     at-end f = omega (arith, f .start, f .end)
 
-    go : Frame kind depth body s p a q → Nested (p .at) (q .at) (a .ranges)
+    go : Frame kind depth body s p a q → Nested inside (p .at) (q .at) (a .ranges)
     go f =
         let l = span-length f in
         let i : f .span .start ≤ length (take (f .span .start + f .span .count) s) = rw l (omega arith) in
         let j = onward (body (f .format)) _ (place (f .span .start) (f .steps)) i (f .held) in
         let n = o (f .format) _ (place (f .span .start) (f .steps)) (f .inner) (f .last) i (f .held) in
-        subst (λ (b : Found). Nested (p .at) (q .at) (b .ranges)) (sym (f .found))
-        (next (at-start f) (later (end (f .span)) (omega (arith, l, j .1)) n) (none (at-end f)))
+        subst (λ (b : Found). Nested inside (p .at) (q .at) (b .ranges)) (sym (f .found))
+        (next z (at-start f) (later (end (f .span)) (omega (arith, l, j .1)) n) (none (at-end f)))
 
 -- from where it begins to where it ends
-spanned : {a e : ℕ} {f : Forest} (kind format depth : ℕ) → Nested a e f → Nested a e (ranged kind format depth (between a e) f)
-spanned {a} {e} kind format depth h =
+spanned : {v : Level} {a e : ℕ} {f : Forest} (kind format depth : ℕ) → Kind-at v kind → Nested inside a e f → Nested v a e (ranged kind format depth (between a e) f)
+spanned {a = a} {e} kind format depth k h =
     let l = forward h in
     let z : a ≤ a = omega arith in
     let x : a + (e - a) ≤ e = omega arith in
-    next z (later (a + (e - a)) (omega arith) h) (none x)
+    next k z (later (a + (e - a)) (omega arith) h) (none x)
 
-orderly-pdu : (depth : ℕ) (body : Script) → Orderly (follow body) → Orderly (follow (pdu depth body))
+orderly-pdu : (depth : ℕ) (body : Script) → Orderly inside (follow body) → Orderly inside (follow (pdu depth body))
 orderly-pdu depth body o s p a q h e = go (pdu-read depth body s p e)
   where
-    go : Pdu depth body s p a q → Nested (p .at) (q .at) (a .ranges)
-    go f =
-        subst (λ (b : Found). Nested (p .at) (q .at) (b .ranges)) (sym (f .found))
-        (sooner (p .at) (omega (arith, f .start)) (spanned 4 0 depth (orderly-times body o (f .count) s (f .first) (f .inner) q (rw (f .start) (f .fits)) (f .held))))
+    four : _<_ 0 4
+    four = omega arith
 
-orderly-flows : (inner : Script) → Orderly (follow inner) → Rows (flows inner)
+    go : Pdu depth body s p a q → Nested inside (p .at) (q .at) (a .ranges)
+    go f =
+        subst (λ (b : Found). Nested inside (p .at) (q .at) (b .ranges)) (sym (f .found))
+        (sooner (p .at) (omega (arith, f .start)) (spanned 4 0 depth four (orderly-times body o (f .count) s (f .first) (f .inner) q (rw (f .start) (f .fits)) (f .held))))
+
+orderly-flows : (inner : Script) → Orderly inside (follow inner) → Rows (flows inner)
 unfolding flows
 orderly-flows inner h =
     flat (flat (flat (flat (flat (flat (flat (flat (flat (flat (flat (flat (flat (flat (flat (flat (flat (flat (flat (counts h over)))))))))))))))))))
 
-orderly-flow : (limit left : ℕ) → Orderly (follow (flow limit left))
+orderly-flow : (limit left : ℕ) → Orderly inside (follow (flow limit left))
 unfolding flow follow
 orderly-flow limit zero = λ s p a q h e. never e
 orderly-flow limit (suc left) =
     let inner = pdu (limit - left) (flow limit left) in
-    orderly-framed 2 (limit - left) (opened (flows inner)) (orderly-opened (orderly-flows inner (orderly-pdu (limit - left) (flow limit left) (orderly-flow limit left))))
+    orderly-framed 2 (limit - left) (opened (flows inner)) (omega arith) (orderly-opened (orderly-flows inner (orderly-pdu (limit - left) (flow limit left) (orderly-flow limit left))))
 
-orderly-sample : (limit : ℕ) → Orderly (follow (sample limit))
+orderly-sample : (limit : ℕ) → Orderly inside (follow (sample limit))
 unfolding samples
 orderly-sample limit =
-    let f : Orderly (follow (flow limit limit)) = orderly-flow limit limit in
-    let c : Orderly (follow counter) = orderly-framed 3 1 (opened []) (orderly-opened over) in
-    orderly-framed 1 0 (opened (samples limit)) (orderly-opened (counts f (counts c (counts f (counts c (counts f over))))))
+    let f : Orderly inside (follow (flow limit limit)) = orderly-flow limit limit in
+    let c : Orderly inside (follow counter) = orderly-framed 3 1 (opened []) (omega arith) (orderly-opened over) in
+    orderly-framed 1 0 (opened (samples limit)) (omega arith) (orderly-opened (counts f (counts c (counts f (counts c (counts f over))))))
 
 -- ---- a datagram, and a run of them
 
-pub datagram-nested : (limit : ℕ) → Orderly (follow (datagram-to limit))
+pub datagram-nested : (limit : ℕ) → Orderly top (follow (datagram-to limit))
 datagram-nested limit s p a q h e =
     let w = split (fields-out header s p) _ (sym (datagram-is limit s p) ∙ e) in
     let i = header-on s p h (w .first) in
     let v = split (times (last-number (w .value)) (follow (sample limit)) s (w .place)) _ (w .second) in
-    moved {a = whole (p .at) (w .value) (v .value) (v .place)} (v .second) (spanned 0 0 0 (sooner (p .at) (omega (arith, i .0)) (orderly-times (sample limit) (orderly-sample limit) (last-number (w .value)) s (w .place) (v .value) (v .place) (i .1) (v .first))))
+    moved {a = whole (p .at) (w .value) (v .value) (v .place)} (v .second) (spanned 0 0 0 refl (sooner (p .at) (omega (arith, i .0)) (orderly-times (sample limit) (orderly-sample limit) (last-number (w .value)) s (w .place) (v .value) (v .place) (i .1) (v .first))))
 
-pub run-nested : (fuel : ℕ) → Orderly (datagrams fuel)
+pub run-nested : (fuel : ℕ) → Orderly top (datagrams fuel)
 unfolding datagrams tried
 run-nested zero s p a q h e = moved e (none (le-refl _))
 run-nested (suc fuel) s p a q h e = go (λ r b v. run-nested fuel s r b v) (leb (length s) (p .at)) (follow datagram s p) refl e
   where
-    go : ((r : Place) (b : Found) (v : Place) → r .at ≤ length s → datagrams fuel s r ≡ got b v → Nested (r .at) (v .at) (b .ranges))
-        → (t : Bool) (o : Out Found) → follow datagram s p ≡ o → cond t (got nothing p) (tried o p (datagrams fuel s)) ≡ got a q → Nested (p .at) (q .at) (a .ranges)
+    go : ((r : Place) (b : Found) (v : Place) → r .at ≤ length s → datagrams fuel s r ≡ got b v → Nested top (r .at) (v .at) (b .ranges))
+        → (t : Bool) (o : Out Found) → follow datagram s p ≡ o → cond t (got nothing p) (tried o p (datagrams fuel s)) ≡ got a q → Nested top (p .at) (q .at) (a .ranges)
     go again true o f e = moved e (none (le-refl _))
     go again false (got d r) f e =
         let v = split (datagrams fuel s r) _ e in
         moved (v .second) (joined (datagram-nested depth-limit s p d r h f) (again r (v .value) (v .place) (onward datagram s p h f .1) (v .first)))
     go again false (stop c i n) f e = ends (eqb c 2) e
       where
-        ends : (t : Bool) → cond t (got nothing (record { at = p .at; steps = n })) (stop c i n) ≡ got a q → Nested (p .at) (q .at) (a .ranges)
+        ends : (t : Bool) → cond t (got nothing (record { at = p .at; steps = n })) (stop c i n) ≡ got a q → Nested top (p .at) (q .at) (a .ranges)
         ends true e = moved e (none (le-refl _))
         ends false e = never e

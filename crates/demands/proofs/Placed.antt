@@ -18,13 +18,13 @@ use Rattle.reading.proofs.Stored.{rows-length}
 use Rattle.reading.proofs.Descriptors.{entry}
 use Rattle.demands.proofs.Codes.{Told, fault, datagram-told, run-told}
 use Rattle.demands.proofs.Quarter.{one-size, run-size}
-use Rattle.demands.specs.Nested.{Nested, Row, row, In-place}
+use Rattle.demands.specs.Nested.{top, Nested, Row, row, In-place}
 use Rattle.demands.proofs.Nested.{datagram-nested, run-nested}
-use Rattle.demands.proofs.Siblings.{In, this, within, behind, Parent, own, before, parted, Outside, over, parent-holds, siblings-apart}
+use Rattle.demands.proofs.Siblings.{In, this, within, behind, Parent, own, before, parted, Outside, over, root-parent, root-kind, parent-holds, siblings-apart}
 
 same : (v w : List ℕ) (i j : ℕ) → ((k : ℕ) → entry v i k ≡ entry w j k) → row v i ≡ row w j
 unfolding row
-same v w i j e = λ t. record { span = record { start = e 2 t; count = e 3 t }; parent = e 4 t }
+same v w i j e = λ t. record { kind = e 0 t; span = record { start = e 2 t; count = e 3 t }; parent = e 4 t }
 
 past-one : (a b c d e f i : ℕ) (l : List ℕ) → row (a ∷ b ∷ c ∷ d ∷ e ∷ f ∷ l) (suc i) ≡ row l i
 past-one a b c d e f i l =
@@ -53,23 +53,24 @@ stands-in (tree r a b) j p (suc i) k rest h e =
     go f g q false t = within (f (omega (arith, leb-false)))
     go f g q true t = let l : size a ≤ i = leb-true (size a) i t in subst (In (tree r a b) j p k) (sym (q l)) (behind (g (omega arith) (omega arith)))
 
-module _ (f : Forest) {lo hi : ℕ} (nested : Nested lo hi f) (few : size f ≤ nobody) (rest : List ℕ) where
+module _ (f : Forest) {lo hi : ℕ} (nested : Nested top lo hi f) (few : size f ≤ nobody) (rest : List ℕ) where
   listed : (i : ℕ) → i < size f → In f 0 nobody i (row (rows 0 nobody f ++ rest) i)
   listed i h = stands-in f 0 nobody i i rest h (omega arith)
 
   outside : Outside f 0 nobody
   outside = over (omega arith)
 
-  first : (i : ℕ) → i < size f → (row (rows 0 nobody f ++ rest) i .parent ≡ nobody → ⊥) → row (rows 0 nobody f ++ rest) i .parent < i
+  first : (i : ℕ) → i < size f → (row (rows 0 nobody f ++ rest) i .kind ≡ 0 → ⊥) → row (rows 0 nobody f ++ rest) i .parent < i
   first i h z = go (parted (listed i h) .parent)
     where
       go : Parent nobody 0 i (row (rows 0 nobody f ++ rest) i .parent) → row (rows 0 nobody f ++ rest) i .parent < i
-      go (own e) = absurd (z e)
+      go (own e) = absurd (z (root-kind nested outside (listed i h) e))
       go (before u v) = v
 
   pub rows-in-place : In-place (rows 0 nobody f ++ rest) (size f)
   rows-in-place =
       record {
+        no-parent = λ i h z. root-parent nested (listed i h) z;
         parent-before = first;
         parent-holds = λ i h z. let l = first i h z in parent-holds nested outside (listed i h) (listed (row (rows 0 nobody f ++ rest) i .parent) (omega arith)) refl;
         siblings-apart = λ i k l h z. siblings-apart nested outside (listed i (omega arith)) (listed k h) l z;
@@ -81,7 +82,7 @@ abbrev pub Placed : Answer → Type 0
 Placed a = a .code ≡ 0 → In-place (a .store) (a .needed)
 
 module _ (s w : List ℕ) where
-  stored-placed : (head : List Value → Header) (o : Out Found) → Told o → ((a : Found) (q : Place) → o ≡ got a q → Nested 0 (q .at) (a .ranges))
+  stored-placed : (head : List Value → Header) (o : Out Found) → Told o → ((a : Found) (q : Place) → o ≡ got a q → Nested top 0 (q .at) (a .ranges))
       → ((a : Found) (q : Place) → o ≡ got a q → 4 * size (a .ranges) ≤ length s) → length s ≤ limit → Placed (stored head o w)
   unfolding stored
   stored-placed head (got a q) t n f short =
