@@ -2,6 +2,7 @@
 -- `run s w`. This is the file to open first: each theorem is one line, from the file that its heading names. Assumes nothing.
 use Prim.Native.Nat.{ℕ, _*_, _/_, _≤_, _<_}
 use mathlib.Core.Path.{_≡_}
+use mathlib.Core.Logic.{_↔_}
 use mathlib.Core.Bool.{true}
 use mathlib.Core.List.{List}
 use lib.ListN.{length, take, drop}
@@ -109,7 +110,7 @@ module _ (s w : List ℕ) where
 
   -- as one equivalence, with a store for a quarter of the length
   pub accepted-exactly : length s ≤ limit → length s / 4 ≤ length w / 6
-      → (one s w .code ≡ 0 → (f : Found) × (bytes items : ℕ) × Allowed s f bytes items) × ((f : Found) × (bytes items : ℕ) × Allowed s f bytes items → one s w .code ≡ 0)
+      → (one s w .code ≡ 0) ↔ ((f : Found) × (bytes items : ℕ) × Allowed s f bytes items)
   accepted-exactly short wide =
       (λ z. let a = accepted-reads s w z in (a .found, a .bytes, a .items, a .allowed), λ (f, bytes, items, r). reading-answers s w short r (reading-fits s w short r wide) .code)
 
@@ -162,16 +163,15 @@ module _ (s w : List ℕ) where
   run-record-not-looked-at t = run-eight-unseen s t w
 
 -- ==== field reading (`FieldsItemised`), of a descriptor of this kind, format and range that is asked for these fields: every answer is one of
--- five, too long, a range that passes the input, another kind or format, stopped after so many items, or read by the grammar
+-- five, too long, a range that passes the input, another kind or format, stopped after so many items, or read by the grammar, in one way only (`one-fields-reading`)
 pub fields-read-exactly : (ak af : ℕ) (s : List ℕ) (k f start extent : ℕ) → Fields-itemised ak af s k f start extent (read ak af s k f start extent)
 fields-read-exactly = fields-itemised
 
 -- ==== the grammar: it knows no limit of depth (`Limit`), and its strings are RFC 3629's (`Characters`, by `Abnf`)
-pub depth-is-the-limit : (o : ℕ) (b : List ℕ) (f : Found) (k : ℕ)
-    → ((n : ℕ) × Is (datagram-to n) o b f k × Shallow depth-limit (f .ranges) → Is datagram o b f k) × (Is datagram o b f k → (n : ℕ) × Is (datagram-to n) o b f k × Shallow depth-limit (f .ranges))
+pub depth-is-the-limit : (o : ℕ) (b : List ℕ) (f : Found) (k : ℕ) → ((n : ℕ) × Is (datagram-to n) o b f k × Shallow depth-limit (f .ranges)) ↔ Is datagram o b f k
 depth-is-the-limit o b f k = (λ (n, i, z). same-reading n depth-limit o b f k i z, λ i. (depth-limit, i, no-deeper depth-limit o b f k i))
 
-pub strings-are-utf8 : (s : List ℕ) → (utf8 s ≡ true → UTF8-octets s) × (UTF8-octets s → utf8 s ≡ true)
+pub strings-are-utf8 : (s : List ℕ) → (utf8 s ≡ true) ↔ UTF8-octets s
 strings-are-utf8 s = (test-by-rules s, λ t. rules-by-test t)
 
 -- ==== the impostors (`Impostors`): a call that answers what the definitions say does none of these

@@ -16,7 +16,7 @@ use Rattle.reading.specs.Cursor.{Place, Out, got, stop, follow}
 use Rattle.reading.specs.Grammar.{Is}
 use Rattle.reading.specs.Layout.{Field}
 use Rattle.reading.specs.Values.{alone, valued, reading}
-use Rattle.reading.specs.Answer.{limit, from, layout-of, answered, unread, read}
+use Rattle.reading.specs.Answer.{limit, from, layout-of, Fields, answered, unread, read}
 use Rattle.reading.proofs.Items.{split}
 use Rattle.reading.proofs.Stands.{place, drop-take}
 use Rattle.reading.proofs.Fields.{fields-out, fields-then}
@@ -105,3 +105,10 @@ module _ (s : List ℕ) (kind format start extent : ℕ) (short : length s ≤ l
       own-read
       ∙ ap (λ (o : Out Found). answered (valued (layout-of kind format) o)) (halting t (take (start + extent) s) 0 own-left)
       ∙ ap (λ (j : ℕ). no-fields (layout-of kind format) c i j) (zero-add n)
+
+  -- no range has two readings of its fields
+  pub one-fields-reading : {vs us : List Value} {n m : ℕ} (x y u v : List ℕ) → take extent (drop start s) ≡ x ++ y → take extent (drop start s) ≡ u ++ v
+      → Is (alone (layout-of kind format)) start x (only-values vs) n → Is (alone (layout-of kind format)) start u (only-values us) m → (vs ≡ us) × (n ≡ m)
+  one-fields-reading x y u v e f i j =
+      let g = sym (fields-answered x y e i) ∙ fields-answered u v f j in
+      (ap (λ (a : Fields). a .values) g, ap (λ (a : Fields). a .steps) g)
