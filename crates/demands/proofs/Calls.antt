@@ -4,11 +4,9 @@ use mathlib.Core.Path.{_≡_}
 use mathlib.Core.List.{List}
 use lib.ListN.{length}
 use Rattle.reading.specs.Answer.{limit, room, Answer, refused, one, run}
-use Rattle.reading.proofs.Descriptors.{Stored-read, stored-reading-accepts, stored-run-reading-accepts}
 use Rattle.demands.proofs.Quarter.{Quartered, one-quartered, run-quartered, one-room, run-room}
 use Rattle.demands.proofs.Kept.{Kept, one-kept, run-kept}
 use Rattle.demands.proofs.Placed.{Placed, one-placed, run-placed}
-use Rattle.demands.proofs.Fielded.{All-fields, one-fields, run-fields}
 use Rattle.demands.proofs.Itemised.{long-refused}
 use Rattle.demands.proofs.RunItemised.{run-too-long}
 
@@ -36,14 +34,6 @@ never-for-room decode-run s w = run-room s w
 pub placed : {c : Call} → Public c → (s w : List ℕ) → Placed (c s w)
 placed decode s w = one-placed s w
 placed decode-run s w = run-placed s w
-
-pub fielded : {c : Call} → Public c → (s w : List ℕ) → All-fields s (c s w)
-fielded decode s w = one-fields s w
-fielded decode-run s w = run-fields s w
-
-pub stored-fields : {c : Call} → Public c → (s w : List ℕ) → Stored-read s (c s w)
-stored-fields decode s w = stored-reading-accepts s w
-stored-fields decode-run s w = stored-run-reading-accepts s w
 
 pub too-long : {c : Call} → Public c → (s w : List ℕ) → limit < length s → c s w ≡ refused 1 0 0 0 w
 too-long decode s w = long-refused s w

@@ -11,13 +11,12 @@ use Rattle.reading.specs.Script.{Forest, Found}
 use Rattle.reading.specs.Grammar.{Is}
 use Rattle.reading.specs.Layout.{depth-limit, datagram-to, datagram}
 use Rattle.reading.specs.Answer.{limit, nobody, size, no-header, Answer, refused, one, run, read}
-use Rattle.reading.proofs.Holding.{read-here}
-use Rattle.reading.proofs.Descriptors.{descriptor, Read-as}
 use Rattle.demands.specs.Depths.{Shallow}
 use Rattle.demands.proofs.Limit.{no-deeper, same-reading}
 use Rattle.demands.specs.Readings.{Reading, Answers, Allowed, Accepted}
 use Rattle.demands.proofs.Accepted.{one-reading, accepted-reads, reading-answers, reading-fits}
-use Rattle.demands.proofs.Fielded.{Fields-are}
+use Rattle.demands.proofs.Fielded.{All-fields}
+use Rattle.demands.proofs.AcceptedFields.{one-fields, run-all-fields}
 use Rattle.demands.specs.Stops.{Stops}
 use Rattle.demands.specs.Itemised.{Itemised}
 use Rattle.demands.proofs.Itemised.{one-itemised, fault-refused, one-fault, no-fault, room-last, eight-unseen}
@@ -28,7 +27,7 @@ use Rattle.demands.proofs.RunUnseen.{run-eight-unseen}
 use Rattle.demands.specs.Nested.{end, Inside, row}
 use Rattle.demands.specs.FieldsItemised.{Fields-itemised}
 use Rattle.demands.proofs.FieldsItemised.{fields-itemised}
-use Rattle.demands.proofs.Calls.{Call, Public, kept, quartered, never-for-room, placed, fielded, stored-fields, too-long}
+use Rattle.demands.proofs.Calls.{Call, Public, kept, quartered, never-for-room, placed, too-long}
 use Rattle.demands.proofs.Impostors.{Equals, p2, refuses-all, answers-p2, writes-nothing, own-steps, run-invents}
 use Rattle.demands.specs.Abnf.{UTF8-octets}
 use Rattle.demands.proofs.Characters.{test-by-rules, rules-by-test}
@@ -80,16 +79,6 @@ module _ {c : Call} (p : Public c) (s w : List ℕ) where
       → end (row (c s w .store) i .span) ≤ row (c s w .store) k .span .start
   sibling-after-sibling z = placed p s w z .siblings-apart
 
-  -- ---- demand 2, fields (`Fielded`): of each descriptor that is read here, field reading gives what the grammar reads at the start of its range
-  pub fields-are-read : c s w .code ≡ 0 → (i : ℕ) → i < c s w .needed → read-here (descriptor (c s w .store) i .kind) (descriptor (c s w .store) i .format) ≡ true
-      → Fields-are s (descriptor (c s w .store) i)
-  fields-are-read = fielded p s w
-
-  -- which are the whole reading's values: with them, what is read behind the fields is what the range has inside
-  pub fields-are-the-readings : c s w .code ≡ 0 → (i : ℕ) → i < c s w .needed → read-here (descriptor (c s w .store) i .kind) (descriptor (c s w .store) i .format) ≡ true
-      → (inner : Forest) × Read-as s (descriptor (c s w .store) i) inner
-  fields-are-the-readings = stored-fields p s w
-
   -- ---- the first fault: code 1 comes before all
   pub too-long-first : limit < length s → c s w ≡ refused 1 0 0 0 w
   too-long-first = too-long p s w
@@ -113,6 +102,11 @@ module _ (s w : List ℕ) where
       → (one s w .code ≡ 0) ↔ ((f : Found) × (bytes items : ℕ) × Allowed s f bytes items)
   accepted-exactly short wide =
       (λ z. let a = accepted-reads s w z in (a .found, a .bytes, a .items, a .allowed), λ (f, bytes, items, r). reading-answers s w short r (reading-fits s w short r wide) .code)
+
+  -- the fields of each descriptor that is read here (`Fielded`): field reading gives the values that the grammar reads at the start of its range, with
+  -- which it reads, behind them, what this reading has inside the range
+  pub fields-are-read : one s w .code ≡ 0 → {f : Found} {bytes items : ℕ} → Allowed s f bytes items → All-fields s (f .ranges) (one s w .store)
+  fields-are-read = one-fields s w
 
   -- ---- demand 3, steps are items (`Itemised`, by `Stops`): every answer is one of four, too long, stopped after so many items with why the next
   -- is none, read whole without room, or accepted
@@ -148,6 +142,9 @@ module _ (s w : List ℕ) where
 
   pub only-run : {g h : Forest} {end n last m : ℕ} → Run s 0 g end n → Run s 0 h last m → (g ≡ h) × (end ≡ last) × (n ≡ m)
   only-run = one-run s w
+
+  pub run-fields-are-read : run s w .code ≡ 0 → {g : Forest} {end n : ℕ} → Run s 0 g end n → All-fields s g (run s w .store)
+  run-fields-are-read = run-all-fields s w
 
   -- ---- demand 3: the steps are the items of every datagram tried
   pub run-steps-are-items : Run-itemised s w (run s w)

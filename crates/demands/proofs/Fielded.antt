@@ -1,62 +1,127 @@
 -- Demand 2, of field reading: for each descriptor of an accepted input whose kind and format are read here, field reading answers the values that
--- the grammar reads at the start of the descriptor's range. For one datagram, and for a run. Assumes nothing.
-use Prim.Native.Nat.{ℕ, _+_, _<_}
-use mathlib.Core.Path.{_≡_, sym, ap, _∙_}
-use mathlib.Core.Bool.{true}
-use mathlib.Core.List.{List, _++_}
+-- the grammar reads at the start of the descriptor's range; and with these values the grammar reads, behind them, what the whole reading has inside
+-- that range. For one datagram, and for a run. Assumes nothing.
+use Prim.Native.Nat.{ℕ, zero, suc, _+_, _*_, _-_, _≤_, _<_}
+use mathlib.Core.Path.{_≡_, refl, sym, ap, _∙_, subst}
+use mathlib.Core.Bool.{Bool, true, false}
+use mathlib.Core.List.{List, _∷_, _++_, append-assoc}
 use native.Mathlib.Omega.{arith}
 use native.Mathlib.Nat.{zero-add}
-use lib.ListN.{length, take, drop}
-use lib.Seq.{length-take-le}
-use Rattle.reading.specs.Script.{Value, Range, Forest}
-use Rattle.reading.specs.Cursor.{got, follow}
+use borrow.Author.Tests.{leb-true, leb-false}
+use lib.Dec.{leb}
+use lib.ListN.{length, take, drop, getD}
+use lib.Seq.{length-take-le, getD-append-add}
+use Rattle.reading.specs.Script.{Value, Range, Forest, bare, tree, Found, Script}
+use Rattle.reading.specs.Cursor.{Place, got, follow}
 use Rattle.reading.specs.Grammar.{Is}
+use Rattle.reading.specs.Layout.{datagram}
 use Rattle.reading.specs.Values.{alone}
-use Rattle.reading.specs.Answer.{from, Answer, one, run, layout-of}
+use Rattle.reading.specs.Answer.{limit, from, nobody, size, rows, datagrams, layout-of}
 use Rattle.reading.proofs.Stands.{place, drop-take}
 use Rattle.reading.proofs.Fields.{fields-then}
-use Rattle.reading.proofs.Sound.{sound}
-use Rattle.reading.proofs.Holding.{read-here, up-to}
+use Rattle.reading.proofs.Sound.{Read, sound}
+use Rattle.reading.proofs.Stored.{rows-length}
+use Rattle.reading.proofs.Holding.{read-here, behind as script-behind, up-to}
+use Rattle.reading.proofs.Descriptors.{Among, this, inside, later, read-range, gave, Read-as, entry, descriptor, field-reading-accepts, run-reading-accepts}
 use Rattle.demands.specs.FieldsItemised.{only-values}
-use Rattle.reading.proofs.Descriptors.{read-range, gave, Read-as, descriptor, stored-reading-accepts, stored-run-reading-accepts}
+use Rattle.demands.proofs.Pieces.{behind}
 
--- the range r begins with bytes that are its layout, of these values; and field reading answers just that
-pub record Fields-are (s : List ℕ) (r : Range) : Type 0 where
+-- the range r stands in g with `inner` inside it; it begins with bytes that are its layout, of these values, and field reading answers just that;
+-- behind them are the bytes of what its row has there, with these values, which has the ranges `inner`
+pub record Fields-are (s : List ℕ) (g : Forest) (r : Range) : Type 0 where
   pub values : List Value
   pub items : ℕ
   pub read : List ℕ
+  pub next : List ℕ
   pub rest : List ℕ
-  pub joined : take (r .span .count) (drop (r .span .start) s) ≡ read ++ rest
+  pub joined : take (r .span .count) (drop (r .span .start) s) ≡ read ++ (next ++ rest)
   pub is : Is (alone (layout-of (r .kind) (r .format))) (r .span .start) read (only-values values) items
   pub answer : read-range s r ≡ gave values (place (r .span .start + length read) items)
+  pub inner : Forest
+  pub among : Among r inner g
+  pub found : Found
+  pub more : ℕ
+  pub holds : Is (script-behind (r .kind) (r .format) (r .depth) values) (r .span .start + length read) next found more
+  pub ranges : inner ≡ found .ranges
 
-module _ (s : List ℕ) (r : Range) where
-  fields-are : {inner : Forest} → Read-as s r inner → Fields-are s r
-  unfolding follow
-  fields-are {inner} a =
-      let h = a .holds in
+module _ (s : List ℕ) (g : Forest) (r : Range) where
+  abbrev own : Script
+  own = alone (layout-of (r .kind) (r .format))
+
+  fields-from : {inner : Forest} → Among r inner g → (a : Read-as s r inner)
+      → Read (Is own) (up-to s r) (from (r .span .start)) (only-values (a .values)) (a .holds .next)
+      → Read (Is (script-behind (r .kind) (r .format) (r .depth) (a .values))) (up-to s r) (a .holds .next) (a .holds .found) (a .holds .last) → Fields-are s g r
+  fields-from {inner} m a f t =
       let x = r .span .start in
-      let l : length (up-to s r) ≡ x + r .span .count = length-take-le (x + r .span .count) s (h .fields .lies) in
-      let e : follow (alone (layout-of (r .kind) (r .format))) (up-to s r) (from x) ≡ got (only-values (a .values)) (h .next) =
-      fields-then (layout-of (r .kind) (r .format)) _ (up-to s r) (from x) ∙ rw (h .fields .reads) in
-      let g = sound (alone (layout-of (r .kind) (r .format))) (up-to s r) (from x) (only-values (a .values)) (h .next) (omega (arith, l)) e in
-      let z : h .next ≡ place (x + length (g .read)) (g .items) = λ i. record { at = g .at i; steps = (g .steps ∙ zero-add (g .items)) i } in
+      let z : a .holds .next ≡ place (x + length (f .read)) (f .items) = λ i. record { at = f .at i; steps = (f .steps ∙ zero-add (f .items)) i } in
+      let y : f .rest ≡ t .read ++ t .rest = sym (behind x (f .stands)) ∙ ap (λ (j : ℕ). drop j (up-to s r)) (sym (f .at)) ∙ t .stands .there in
       record {
         values = a .values;
-        items = g .items;
-        read = g .read;
-        rest = g .rest;
-        joined = sym (drop-take x (r .span .count) s) ∙ g .stands .there;
-        is = g .is;
+        items = f .items;
+        read = f .read;
+        next = t .read;
+        rest = t .rest;
+        joined = sym (drop-take x (r .span .count) s) ∙ f .stands .there ∙ ap (λ (b : List ℕ). f .read ++ b) y;
+        is = f .is;
         answer = a .answer ∙ ap (gave (a .values)) z;
+        inner = inner;
+        among = m;
+        found = a .holds .found;
+        more = t .items;
+        holds = subst (λ (j : ℕ). Is (script-behind (r .kind) (r .format) (r .depth) (a .values)) j (t .read) (a .holds .found) (t .items)) (f .at) (t .is);
+        ranges = a .holds .ranges;
       }
 
--- each descriptor of an answer with code 0 that is read here
-abbrev pub All-fields : List ℕ → Answer → Type 0
-All-fields s a = a .code ≡ 0 → (i : ℕ) → i < a .needed → read-here (descriptor (a .store) i .kind) (descriptor (a .store) i .format) ≡ true → Fields-are s (descriptor (a .store) i)
+  fields-are : {inner : Forest} → Among r inner g → Read-as s r inner → Fields-are s g r
+  unfolding follow
+  fields-are m a =
+      let x = r .span .start in
+      let l : length (up-to s r) ≡ x + r .span .count = length-take-le (x + r .span .count) s (a .holds .fields .lies) in
+      let e : follow own (up-to s r) (from x) ≡ got (only-values (a .values)) (a .holds .next) = fields-then (layout-of (r .kind) (r .format)) _ (up-to s r) (from x) ∙ rw (a .holds .fields .reads) in
+      let f = sound own (up-to s r) (from x) (only-values (a .values)) (a .holds .next) (omega (arith, l)) e in
+      fields-from m a f
+      (sound (script-behind (r .kind) (r .format) (r .depth) (a .values)) (up-to s r) (a .holds .next) (a .holds .found) (a .holds .last) (rw (f .at) (f .stands .fits)) (a .holds .rest))
 
-pub one-fields : (s w : List ℕ) → All-fields s (one s w)
-one-fields s w z i h k = fields-are s _ (stored-reading-accepts s w z i h k .1)
+-- ---- each descriptor in a store is a range of the forest whose rows stand there
 
-pub run-fields : (s w : List ℕ) → All-fields s (run s w)
-run-fields s w z i h k = fields-are s _ (stored-run-reading-accepts s w z i h k .1)
+same : (v w : List ℕ) (i j : ℕ) → ((k : ℕ) → entry v i k ≡ entry w j k) → descriptor v i ≡ descriptor w j
+unfolding descriptor
+same v w i j e = λ t. record { kind = e 0 t; format = e 1 t; span = record { start = e 2 t; count = e 3 t }; depth = e 5 t }
+
+past-one : (a b c d e f i : ℕ) (l : List ℕ) → descriptor (a ∷ b ∷ c ∷ d ∷ e ∷ f ∷ l) (suc i) ≡ descriptor l i
+past-one a b c d e f i l =
+    same (a ∷ b ∷ c ∷ d ∷ e ∷ f ∷ l) l (suc i) i (λ k.
+    ap (λ (n : ℕ). getD (a ∷ b ∷ c ∷ d ∷ e ∷ f ∷ l) n 0) {x = 6 * suc i + k} {y = suc (suc (suc (suc (suc (suc (6 * i + k))))))} (omega arith))
+
+past : (l m : List ℕ) (n i : ℕ) → length l ≡ 6 * n → n ≤ i → descriptor (l ++ m) i ≡ descriptor m (i - n)
+past l m n i e h =
+    same (l ++ m) m i (i - n) (λ k.
+    ap (λ (j : ℕ). getD (l ++ m) j 0) {x = 6 * i + k} {y = length l + (6 * (i - n) + k)} (omega arith) ∙ getD-append-add l m (6 * (i - n) + k) 0)
+
+stands-in : (f : Forest) (j p i : ℕ) (rest : List ℕ) → i < size f → (inner : Forest) × Among (descriptor (rows j p f ++ rest) i) inner f
+unfolding rows size descriptor
+stands-in bare j p i rest h = absurd (omega arith)
+stands-in (tree r a b) j p zero rest h = (a, this)
+stands-in (tree r a b) j p (suc i) rest h =
+    let x = rows (j + 1) j a in
+    let y = rows (j + 1 + size a) p b ++ rest in
+    go (stands-in a (j + 1) j i y) (stands-in b (j + 1 + size a) p (i - size a) rest)
+    (past-one (r .kind) (r .format) (r .span .start) (r .span .count) p (r .depth) i ((x ++ rows (j + 1 + size a) p b) ++ rest)
+    ∙ ap (λ (l : List ℕ). descriptor l i) (append-assoc x (rows (j + 1 + size a) p b) rest))
+    (past x y (size a) i (rows-length (j + 1) j a)) (leb (size a) i) refl
+  where
+    go : {d u v : Range} → (i < size a → (inner : Forest) × Among u inner a) → (i - size a < size b → (inner : Forest) × Among v inner b)
+        → d ≡ u → (size a ≤ i → u ≡ v) → (t : Bool) → leb (size a) i ≡ t → (inner : Forest) × Among d inner (tree r a b)
+    go f g e k false t = let m = f (omega (arith, leb-false)) in (m .0, rw e (inside (m .1)))
+    go f g e k true t = let m = g (omega (arith, leb-true)) in (m .0, rw (e ∙ k (leb-true (size a) i t)) (later (m .1)))
+
+-- the descriptors of a store in which the rows of g stand, each that is read here
+abbrev pub All-fields : List ℕ → Forest → List ℕ → Type 0
+All-fields s g store = (i : ℕ) → i < size g → read-here (descriptor store i .kind) (descriptor store i .format) ≡ true → Fields-are s g (descriptor store i)
+
+module _ (s : List ℕ) (short : length s ≤ limit) (a : Found) (q : Place) (rest : List ℕ) where
+  pub datagram-fields : follow datagram s (from 0) ≡ got a q → All-fields s (a .ranges) (rows 0 nobody (a .ranges) ++ rest)
+  datagram-fields e i h k = let m = stands-in (a .ranges) 0 nobody i rest h in fields-are s (a .ranges) _ (m .1) (field-reading-accepts s short e (m .1) k)
+
+  pub run-fields : (fuel : ℕ) → datagrams fuel s (from 0) ≡ got a q → All-fields s (a .ranges) (rows 0 nobody (a .ranges) ++ rest)
+  run-fields fuel e i h k = let m = stands-in (a .ranges) 0 nobody i rest h in fields-are s (a .ranges) _ (m .1) (run-reading-accepts s short fuel e (m .1) k)

@@ -19,6 +19,7 @@ pub mod RunItemised
 pub mod Unseen
 pub mod FieldsItemised
 pub mod RunUnseen
+pub mod AcceptedFields
 pub mod Calls
 pub mod Impostors
 pub mod Characters

@@ -65,7 +65,7 @@ module _ (s w : List ℕ) where
 
   -- ---- and each of these is answered just so
 
-  run-out : {g : Forest} {end n : ℕ} → Run s 0 g end n → datagrams (length s) s (from 0) ≡ got (only g) (place end n)
+  pub run-out : {g : Forest} {end n : ℕ} → Run s 0 g end n → datagrams (length s) s (from 0) ≡ got (only g) (place end n)
   unfolding run-from
   run-out {g} {end} {n} t = run-read s 0 t ∙ ap (λ (k : ℕ). got (only g) (place end k)) (zero-add n)
 
