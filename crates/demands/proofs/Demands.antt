@@ -22,7 +22,7 @@ use Rattle.demands.specs.Itemised.{Itemised}
 use Rattle.demands.proofs.Itemised.{one-itemised, fault-refused, one-fault, no-fault, room-last, eight-unseen}
 use Rattle.demands.specs.Tries.{Run, Run-stops}
 use Rattle.demands.specs.RunItemised.{Run-answers, Run-itemised, Run-accepted}
-use Rattle.demands.proofs.RunItemised.{run-itemised, run-accepts, run-answered, run-refused, one-run, run-room-last}
+use Rattle.demands.proofs.RunItemised.{run-itemised, run-accepts, run-answered, run-fits, run-refused, one-run, run-room-last}
 use Rattle.demands.proofs.RunUnseen.{run-eight-unseen}
 use Rattle.demands.specs.Nested.{end, Inside, row}
 use Rattle.demands.specs.FieldsItemised.{Fields-itemised}
@@ -142,6 +142,9 @@ module _ (s w : List ℕ) where
 
   pub only-run : {g h : Forest} {end n last m : ℕ} → Run s 0 g end n → Run s 0 h last m → (g ≡ h) × (end ≡ last) × (n ≡ m)
   only-run = one-run s w
+
+  pub run-accepted-exactly : length s ≤ limit → length s / 4 ≤ length w / 6 → (run s w .code ≡ 0) ↔ ((g : Forest) × (end n : ℕ) × Run s 0 g end n)
+  run-accepted-exactly short wide = (λ z. let a = run-accepts s w z in (a .ranges, a .end, a .items, a .is), λ (g, e, n, t). run-answered s w short t (run-fits s w t wide) .code)
 
   pub run-fields-are-read : run s w .code ≡ 0 → {g : Forest} {end n : ℕ} → Run s 0 g end n → All-fields s g (run s w .store)
   run-fields-are-read = run-all-fields s w

@@ -1,6 +1,6 @@
 -- Demands 2 and 3 of what a run answers: code 0 exactly when there is a run by the grammar, whose ranges, end and items are answered; and on a refusal
 -- the items up to the fault. Assumes nothing.
-use Prim.Native.Nat.{ℕ, _≤_, _<_}
+use Prim.Native.Nat.{ℕ, _/_, _≤_, _<_}
 use mathlib.Core.Path.{_≡_, refl, sym, ap, _∙_, subst}
 use mathlib.Core.Bool.{Bool, true, false, cond}
 use mathlib.Core.List.{List}
@@ -16,6 +16,7 @@ use Rattle.reading.specs.Answer.{limit, from, size, room, no-header, Answer, re
 use Rattle.reading.proofs.Stands.{place}
 use Rattle.reading.proofs.Runs.{run-from}
 use Rattle.demands.specs.RunItemised.{Run-answers, Run-accepted, Run-itemised, too-long, faulty, no-room, whole}
+use Rattle.demands.proofs.Quarter.{run-size}
 use Rattle.demands.proofs.Codes.{Told, fine, fault, run-told}
 use Rattle.demands.specs.Tries.{Run, Run-stops}
 use Rattle.demands.proofs.Tried.{Tried, done, halted, run-tried, run-read, run-stopped}
@@ -76,6 +77,10 @@ module _ (s w : List ℕ) where
   pub run-answered : {g : Forest} {end n : ℕ} → length s ≤ limit → Run s 0 g end n → size g ≤ room w → Run-answers w g end n (run s w)
   unfolding run
   run-answered {g} {end} {n} h t k = rw (le-leb (length s) limit h, run-out t) (stored-run w (only g) (place end n) k)
+
+  -- a store for a quarter of the length has room for any run
+  pub run-fits : {g : Forest} {end n : ℕ} → Run s 0 g end n → length s / 4 ≤ room w → size g ≤ room w
+  run-fits {g} {end} {n} t h = let k = run-size s w (only g) (place end n) (run-out t) in omega (arith, k)
 
   pub run-refused : {c i n : ℕ} → length s ≤ limit → Run-stops s 0 c i n → run s w ≡ refused c i n 0 w
   unfolding run stored
