@@ -1,4 +1,4 @@
-"""The example in the header's first comment, taken out of it, compiled as C and as C++, linked and run."""
+"""The example in the header's first comment, taken out of it, and examples/first.c: compiled, linked and run."""
 import re
 import subprocess
 
@@ -57,7 +57,7 @@ def build(words, suffix):
     return path + ".program"
 
 
-def check_all(checks, rng):
+def check_header(checks, rng):
     packet = captures.ethernet(captures.ipv4(b"example"))
     wire = encoder.Wire(rng)
     put = [wire.put_record(encoder.Body("extended_switch", rng)), wire.put_record(encoder.Body("sampled_header", rng, header=packet))]
@@ -67,3 +67,20 @@ def check_all(checks, rng):
         for data, expected in ((wire.data, packet.hex() + "\n"), (tool_checks.SHORT, ""), (encoder.word(4), "refused 3 at 0\n")):
             ran = subprocess.run([program], input=bytes(data), capture_output=True)
             checks.same(f"the header's example, {words[1]}", expected, ran.stdout.decode())
+
+
+def check_first(checks, rng):
+    """A user's first program: a sampled header's bytes, and an SSID whose control character does not get through."""
+    program = building.made("first")
+    building.run(["gcc", "-std=c99", "-pedantic", *building.WARNINGS, "-I" + building.at("include"), building.at("examples", "first.c"), building.LIBRARY, "-o", program])
+    packet, wire = captures.ethernet(captures.ipv4(b"first")), encoder.Wire(rng)
+    bodies = encoder.Body("sampled_header", rng, header=packet), encoder.Body("extended_80211_rx", rng, ssid="guest\x1b[2J")
+    wire.datagram([wire.put_sample("flow_sample", [wire.put_record(body) for body in bodies])])
+    for data, expected in ((wire.data, packet.hex() + "\nguest.[2J\n"), (encoder.word(4), "refused with code 3 at byte 0\n")):
+        ran = subprocess.run([program], input=bytes(data), capture_output=True)
+        checks.same("examples/first.c", expected, ran.stdout.decode())
+
+
+def check_all(checks, rng):
+    check_header(checks, rng)
+    check_first(checks, rng)
