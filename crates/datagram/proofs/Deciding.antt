@@ -13,7 +13,7 @@ use Rattle.reading.specs.Cursor.{Place, Out, got, stop, times, follow}
 use Rattle.reading.specs.Layout.{last-number, sample, header, datagram}
 use Rattle.reading.specs.Answer as answer
 use Rattle.reading.specs.Answer.{limited, size, rows, room, from, nobody, header-of, no-header, refused, stored, one, run}
-use Rattle.reading.proofs.Items.{never, Split, split}
+use Rattle.reading.proofs.Items.{never, split}
 use Rattle.reading.proofs.Room.{whole, thrifty-datagram, datagram-on}
 use Rattle.reading.proofs.Runs.{run-from, thrifty-run}
 use Rattle.reading.proofs.Counts.{counted}

@@ -17,7 +17,8 @@ use Rattle.reading.proofs.Fields.{fields-out}
 use Rattle.reading.proofs.Counts.{counted}
 use Rattle.reading.proofs.Steps.{Alike, steady-times}
 use Rattle.reading.proofs.Stored.{write, write-length}
-use Rattle.reading.proofs.Places.{Accepted, accepted, ranges-of, end-of, stopped, alike-accepted, alike-ranges, alike-end, forward-times}
+use Rattle.reading.proofs.Places.{Accepted, accepted, ranges-of, end-of, stopped, alike-accepted, alike-ranges, alike-end}
+use Rattle.reading.proofs.Forward.{forward-times}
 use Rattle.xdr.specs.declared.Cursor.{Cursor}
 use Rattle.xdr.specs.declared.Outcome.{Outcome}
 use Rattle.xdr.specs.declared.Passed.{Passed}

@@ -1,32 +1,32 @@
 -- A run of datagrams: a law for each need of its two passes, with the facts that the code has there. Assumes nothing.
 use Prim.Native.Nat.{ℕ, _+_, _*_, _-_, _≤_, _<_}
-use mathlib.Core.Path.{_≡_, refl, sym, ap, _∙_, subst}
-use mathlib.Core.List.{List, [], _∷_, _++_}
+use mathlib.Core.Path.{_≡_, refl, sym, ap, _∙_}
+use mathlib.Core.List.{List, _++_}
 use native.Mathlib.Omega.{arith}
-use native.Mathlib.Nat.{add-zero}
 use borrow.Author.Needs.{needs}
 use lib.ListN.{length, take, drop, length-drop}
 use mir.Syntax.{w32, w64}
 use mir.Val.{Fits}
-use Rattle.reading.specs.Script.{Forest, bare, _⊕_, Found}
+use Rattle.reading.specs.Script.{Forest, Found}
 use Rattle.reading.specs.Cursor.{Place, Out, got, stop, follow}
 use Rattle.reading.specs.Layout.{datagram}
 use Rattle.reading.specs.Answer.{size, rows, from, nobody}
 use Rattle.reading.proofs.Items.{never}
 use Rattle.reading.proofs.Room.{thrifty-datagram, datagram-on}
-use Rattle.reading.proofs.Runs.{run-from, run-over, run-got, run-ends, run-stops, Run-at, run-lies, run-bare}
+use Rattle.reading.proofs.Runs.{run-from, run-over, run-got, run-ends, run-stops}
+use Rattle.reading.proofs.RunAt.{Run-at, run-lies, run-bare}
 use Rattle.reading.proofs.Counts.{counted, size-joined}
-use Rattle.reading.proofs.Stored.{write, write-length, write-none, write-then, write-rest, rest, rest-is, rows-length, rows-joined}
-use Rattle.reading.proofs.Places.{Accepted, ranges-of, end-of, Given, given, forward}
+use Rattle.reading.proofs.Stored.{write, write-length, write-none, write-rest, rest, rest-is}
+use Rattle.reading.proofs.Places.{ranges-of, end-of, given}
+use Rattle.reading.proofs.Forward.{forward}
 use Rattle.xdr.specs.declared.Cursor.{Cursor}
 use Rattle.xdr.specs.declared.Outcome.{Outcome}
 use Rattle.xdr.specs.Shown.{place, refusal}
-use Rattle.flows.specs.declared.frames.Scanned.{Scanned}
 use Rattle.flows.specs.declared.frames.Scanned.the-variants as scanned
 use Rattle.flows.specs.declared.put.Written.{Written}
-use Rattle.flows.specs.Scanned.{Scan, scanned-out}
+use Rattle.flows.specs.Scanned.{Scan}
 use Rattle.flows.specs.Written.{Ready, Put, written, placed}
-use Rattle.flows.proofs.Scan.{Thrift, scan-on}
+use Rattle.flows.proofs.Scan.{scan-on}
 use Rattle.flows.proofs.Placing.{a-put, two-placed, at-is, next-is, store-is, put-kept}
 use Rattle.datagram.specs.declared.one.Judged.{Judged}
 use Rattle.datagram.specs.Shown.{Is-judged, root, pen-at}

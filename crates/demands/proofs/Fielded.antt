@@ -19,7 +19,8 @@ use Rattle.reading.specs.Values.{alone}
 use Rattle.reading.specs.Answer.{limit, from, nobody, size, rows, datagrams, layout-of}
 use Rattle.reading.proofs.Stands.{place, drop-take}
 use Rattle.reading.proofs.Fields.{fields-then}
-use Rattle.reading.proofs.Sound.{Read, sound}
+use Rattle.reading.proofs.Sound.{sound}
+use Rattle.reading.proofs.SoundRows.{Read}
 use Rattle.reading.proofs.Stored.{rows-length}
 use Rattle.reading.proofs.Holding.{read-here, behind as script-behind, up-to}
 use Rattle.reading.proofs.Descriptors.{Among, this, inside, later, read-range, gave, Read-as, entry, descriptor, field-reading-accepts, run-reading-accepts}

@@ -11,7 +11,8 @@ use Rattle.reading.specs.Cursor.{Place, Out, got, stop, then, read-opaque, read
 use Rattle.reading.specs.Grammar.{Is}
 use Rattle.reading.proofs.Items.{never}
 use Rattle.reading.proofs.Stands.{place, Stands}
-use Rattle.reading.proofs.Sound.{Read, sound}
+use Rattle.reading.proofs.Sound.{sound}
+use Rattle.reading.proofs.SoundRows.{Read}
 use Rattle.demands.specs.Stops.{Stops, barred, standing, no-item, past-item, no-opaque, inside-it, past-it, among, past-all}
 use Rattle.demands.proofs.Pieces.{behind, Item-there, item-there, Many-there, many-there, stop-as, opaque-short, item-short}
 use Rattle.demands.proofs.Enclosed.{Span-there, span-there, held, held-is, held-fits, some}

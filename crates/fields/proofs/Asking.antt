@@ -1,18 +1,16 @@
 -- Field reading: a law for each way out of what is asked before it, and the one by which a reader's answer is the field reading's. Assumes nothing.
 use Prim.Native.Nat.{ℕ, _+_, _≤_, _<_}
-use mathlib.Core.Path.{_≡_, refl, sym, _∙_}
-use mathlib.Core.Bool.{true, false}
+use mathlib.Core.Path.{_≡_, sym, _∙_}
 use mathlib.Core.List.{List}
 use native.Mathlib.Omega.{arith}
 use borrow.Author.Needs.{needs}
 use borrow.Author.Tests.{le-leb, lt-leb, eq-eqb, ne-eqb}
-use lib.Dec.{eqb, leb}
 use lib.ListN.{length, take}
 use lib.Seq.{length-take-le}
 use Rattle.reading.specs.Script.{Value}
 use Rattle.reading.specs.Cursor.{stop}
 use Rattle.reading.specs.Values.{valued}
-use Rattle.reading.specs.Answer.{answered, layout-of, read, segment-fields, segment-at}
+use Rattle.reading.specs.Answer.{answered, layout-of, read}
 use Rattle.xdr.specs.declared.Outcome.{Outcome}
 use Rattle.xdr.specs.declared.Passed.{Passed}
 use Rattle.xdr.specs.declared.Passed.the-variants as passed
@@ -20,7 +18,7 @@ use Rattle.xdr.specs.Shown.{answer-of, Answers}
 use Rattle.flows.specs.declared.put.Descriptor.{Descriptor}
 use Rattle.flows.specs.Chain.{Within, inside, over}
 use Rattle.fields.specs.declared.ask.Asked.{Asked}
-use Rattle.fields.specs.Shown.{read-of, unread, not-asked, Asks, Begins}
+use Rattle.fields.specs.Shown.{read-of, unread, not-asked, Asks}
 
 pub nothing-asked : {code : ℕ} {p : Passed} → p ≡ unread code → record { passed = p; end = 0 } ≡ not-asked code
 nothing-asked e = rw e

@@ -5,11 +5,11 @@ use Prim.Native.Nat.{ℕ, zero, suc, _-_, _≤_, _<_}
 use native.Mathlib.Omega.{arith}
 use native.Mathlib.Numerals.{sub-one}
 use borrow.Author.Needs.{needs}
-use Rattle.reading.specs.Script.{Value, part, Found, nothing, word, Script, give}
+use Rattle.reading.specs.Script.{Value, part, Found, nothing, word, Script}
 use Rattle.reading.specs.Cursor.{Place, Out, got, stop, Reader, then, read-item, times, follow}
-use Rattle.reading.specs.Layout.{Field, list, segments, any-word, segment, run-of, field, fields}
+use Rattle.reading.specs.Layout.{Field, list, segments, any-word, segment, field, fields}
 use Rattle.reading.specs.Answer.{segment-fields}
-use Rattle.reading.proofs.Fields.{run-out, field-out, fields-out, fields-then, reads-shown, halts-shown, shown-reads, shown-halts, sole-gives, sole-halts}
+use Rattle.reading.proofs.Fields.{run-out, field-out, fields-out, reads-shown, halts-shown, sole-gives, sole-halts}
 use Rattle.xdr.specs.declared.Cursor.{Cursor}
 use Rattle.xdr.specs.declared.Outcome.{Outcome}
 use Rattle.xdr.specs.declared.Passed.{Passed}

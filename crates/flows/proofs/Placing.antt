@@ -16,7 +16,9 @@ use Rattle.reading.specs.Answer.{size, rows, from}
 use Rattle.reading.proofs.Words.{numbers, row-got}
 use Rattle.reading.proofs.Counts.{size-joined}
 use Rattle.reading.proofs.Stored.{write, write-length, write-none, write-then, write-under, rows-length, rows-joined, rows-one}
-use Rattle.reading.proofs.Places.{Accepted, ranges-of, end-of, stopped, Frame-at, frame-lies, Turn-at, turn-lies, none-lies, Pdu-at, pdu-lies, Each-at, each-lies, words-lie, other-bare, forward-times}
+use Rattle.reading.proofs.Places.{Accepted, ranges-of, end-of, stopped, Frame-at, frame-lies, Turn-at, turn-lies, none-lies, Pdu-at, pdu-lies, Each-at, each-lies, words-lie}
+use Rattle.reading.proofs.Flat.{other-bare}
+use Rattle.reading.proofs.Forward.{forward-times}
 use Rattle.flows.specs.declared.put.Pen.{Pen}
 use Rattle.flows.specs.declared.put.Written.{Written}
 use Rattle.flows.specs.Written.{Ready, Put, written, placed, Filled, filled, fills}

@@ -14,7 +14,8 @@ use Rattle.reading.specs.Cursor.{Place, Out, got, stop, read-item, times, follo
 use Rattle.reading.specs.Layout.{words, last-number, opened, flows, flow, pdu}
 use Rattle.reading.specs.Answer.{size}
 use Rattle.reading.proofs.Items.{never, word-seen}
-use Rattle.reading.proofs.Counts.{counted, counted-stop, counted-none, turn-got, turn-stop, turns-done, resumed, framing, framing-cut, framing-short, framing-got, frame-at, frame-stop, frame-held, Framed-at, framing-lies, pdu-cut, pdu-held, fields-stop, each-held}
+use Rattle.reading.proofs.Counts.{counted, counted-stop, counted-none, turn-got, turn-stop, turns-done, resumed, framing, framing-cut, framing-short, framing-got, frame-at, frame-stop, frame-held, pdu-cut, pdu-held, fields-stop, each-held}
+use Rattle.reading.proofs.Framed.{Framed-at, framing-lies}
 use Rattle.reading.proofs.Bounds.{Owes, owes}
 use Rattle.reading.proofs.Room.{Thrifty, thrifty-flow, thrifty-pdu}
 use Rattle.xdr.specs.declared.Cursor.{Cursor}

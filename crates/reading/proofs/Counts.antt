@@ -1,16 +1,15 @@
 -- How many descriptors a reading needs, frame by frame: what a first pass over the input counts. Assumes nothing.
-use Prim.Native.Nat.{ℕ, zero, suc, _+_, _-_, _≤_}
+use Prim.Native.Nat.{ℕ, zero, suc, _+_, _-_}
 use mathlib.Core.Path.{_≡_, refl, sym, ap, _∙_}
 use mathlib.Core.List.{List}
 use native.Mathlib.Omega.{arith}
 use native.Mathlib.Nat.{add-zero, add-assoc}
-use lib.ListN.{length, take}
-use Rattle.reading.specs.Bytes.{be4}
+use lib.ListN.{take}
 use Rattle.reading.specs.Script.{Span, Value, number, part, Forest, bare, tree, _⊕_, Found, nothing, _&&_, word, opaque, Script, give, repeat}
 use Rattle.reading.specs.Cursor.{Place, Out, got, stop, Reader, then, read-opaque, read-item, times, inside, follow}
 use Rattle.reading.specs.Layout.{num, Field, fields, last-number, only, ranged, between, framed, pdu}
 use Rattle.reading.specs.Answer.{size}
-use Rattle.reading.proofs.Items.{never, split, fixed-read, Opaque-read, opaque-read}
+use Rattle.reading.proofs.Items.{never}
 use Rattle.reading.proofs.Stands.{place}
 use Rattle.reading.proofs.Fields.{fields-out, fields-then, then-then, then-same}
 
@@ -176,31 +175,3 @@ module _ (l : List Field) (s : List ℕ) (p : Place) (k : ℕ) where
   pub each-held : {vs : List Value} {q : Place} (body : Script) → fields-out l s p ≡ got vs q
       → counted k (follow (fields l (λ us. repeat (last-number us) body (λ a. give a))) s p) ≡ counted k (times (last-number vs) (follow body) s q)
   each-held {vs} {q} body e = ap (counted k) (fields-then l _ s p ∙ rw e (repeat-is (last-number vs) body s q))
-
--- ---- where a frame lies
-
-pub record Framed-at (s : List ℕ) (p : Place) (x : Span) (q : Place) : Type 0 where
-  pub start : x .start ≡ p .at + 8
-  pub end : x .start + x .count ≤ q .at
-  pub fits : q .at ≤ length s
-  pub steps : q .steps ≡ p .steps + 2
-
-pub framing-lies : {f : ℕ} {x : Span} {q : Place} (s : List ℕ) (p : Place) → got (framing f x) q ≡ frame-at s p → Framed-at s p x q
-unfolding frame-at read-item
-framing-lies {f} {x} {q} s p e =
-    let w = split (read-item word s p) _ (sym e) in
-    let v = split (read-opaque s (w .place)) _ (w .second) in
-    lies (w .place) (v .value) (v .place) (fixed-read 4 (number (be4 s (p .at))) s p (w .first)) (opaque-read s (w .place) (v .value) (v .place) (v .first)) (v .second)
-  where
-    lies : {v : Value} {g : ℕ} (w : Place) (y : Span) (r : Place) → (p .at + 4 ≤ length s) × (v ≡ number (be4 s (p .at))) × (w .at ≡ p .at + 4) × (w .steps ≡ p .steps + 1)
-        → Opaque-read s w y r → got (framing g y) r ≡ got (framing f x) q → Framed-at s p x q
-    lies {v} {g} w y r h o k =
-        let z : framing g y ≡ framing f x = cc in
-        let i : y ≡ x = ap (λ (t : Framing). t .span) z in
-        let j : r ≡ q = cc in
-        rw (← i, ← j) (record {
-          start = o .start ∙ rw (h .2) (omega arith);
-          end = omega (arith, o .start, o .at);
-          fits = omega (arith, o .at, o .fits);
-          steps = o .steps ∙ rw (h .3) (omega arith);
-        })

@@ -1,20 +1,19 @@
 -- Where the ranges of an accepted reading lie, frame by frame: what a second pass writes, which looks at frames alone. Assumes nothing.
 use Prim.Native.Nat.{ℕ, zero, suc, _+_, _*_, _-_, _/_, _≤_}
 use mathlib.Core.Path.{_≡_, refl, sym, ap, _∙_, subst}
-use mathlib.Core.Bool.{Bool, true, false, cond}
-use mathlib.Core.List.{List, [], _∷_}
+use mathlib.Core.Bool.{Bool, true, false}
+use mathlib.Core.List.{List}
 use native.Mathlib.Omega.{arith}
-use borrow.Author.Tests.{leb-true, leb-false, ne-eqb}
-use lib.Dec.{leb, eqb}
+use borrow.Author.Tests.{leb-true, leb-false}
+use lib.Dec.{leb}
 use lib.ListN.{length, take}
 use Rattle.reading.specs.Bytes.{be4, padded}
-use Rattle.reading.specs.Script.{Span, Value, Forest, bare, _⊕_, Found, nothing, _&&_, Script, give, repeat}
+use Rattle.reading.specs.Script.{Span, Value, Forest, bare, _⊕_, Found, _&&_, Script, give, repeat}
 use Rattle.reading.specs.Cursor.{Place, Out, got, stop, then, times, follow}
-use Rattle.reading.specs.Layout.{Field, fields, Row, last-number, opened, words, ranged, between, framed, pdu, flows}
+use Rattle.reading.specs.Layout.{Field, fields, last-number, words, ranged, between, framed, pdu}
 use Rattle.reading.specs.Answer.{from}
 use Rattle.reading.proofs.Items.{never, split}
 use Rattle.reading.proofs.Stands.{place}
-use Rattle.reading.proofs.Bounds.{Owes, owes}
 use Rattle.reading.proofs.Steps.{Alike, both-got, both-stop, steady, steady-times}
 use Rattle.reading.proofs.Fields.{fields-out, fields-then}
 use Rattle.reading.proofs.Words.{row-stop}
@@ -193,48 +192,3 @@ words-lie n more s at i h = go (leb (4 * n) (length s - at)) refl
     go false t =
         let j = (length s - at) / 4 in
         absurd (stopped (rw (fields-then (words n) more s (from at) ∙ ap (λ (o : Out (List Value)). then o (λ vs q. follow (more vs) s q)) (row-stop s n j (from at) (omega (arith, leb-false)) (omega arith) (omega arith))) at h))
-
--- ---- a record that is no aggregation holds no range
-data Flat (f : ℕ) : List Row → Type 0 where
-  none : Flat f []
-  flat : {r : Row} {rest : List Row} → r .more ≡ (λ _. give nothing) → Flat f rest → Flat f (r ∷ rest)
-  not-this : {r : Row} {rest : List Row} → (r .format ≡ f → ⊥) → Flat f rest → Flat f (r ∷ rest)
-
-bare-fields : (l : List Field) (s : List ℕ) (p : Place) → ranges-of (follow (fields l (λ _. give nothing)) s p) ≡ bare
-unfolding ranges-of follow
-bare-fields l s p = ap ranges-of (fields-then l (λ _. give nothing) s p) ∙ go (fields-out l s p)
-  where
-    go : (o : Out (List Value)) → ranges-of (then o (λ vs q. got nothing q)) ≡ bare
-    go (got vs q) = refl
-    go (stop c a n) = refl
-
-bare-opened : (f : ℕ) (rows : List Row) → Flat f rows → (s : List ℕ) (p : Place) → ranges-of (follow (opened rows f) s p) ≡ bare
-unfolding opened ranges-of follow
-bare-opened f rows none s p = refl
-bare-opened f rows (flat {r} {rest} e t) s p = go (eqb (r .format) f) (bare-opened f rest t s p)
-  where
-    go : (b : Bool) → ranges-of (follow (opened rest f) s p) ≡ bare → ranges-of (follow (cond b (fields (r .layout) (r .more)) (opened rest f)) s p) ≡ bare
-    go true h = ap (λ (m : List Value → Script). ranges-of (follow (fields (r .layout) m) s p)) e ∙ bare-fields (r .layout) s p
-    go false h = h
-bare-opened f rows (not-this {r} {rest} z t) s p = rw (ne-eqb (r .format) f z) (bare-opened f rest t s p)
-
-pub other-bare : (inner : Script) (f : ℕ) (s : List ℕ) (p : Place) → (f ≡ 1016 → ⊥) → ranges-of (follow (opened (flows inner) f) s p) ≡ bare
-unfolding flows
-other-bare inner f s p z =
-    bare-opened f (flows inner)
-    (flat refl (flat refl (flat refl (flat refl (flat refl (flat refl (flat refl (flat refl (flat refl (flat refl (flat refl (flat refl (flat refl (flat refl (flat refl
-    (flat refl (flat refl (flat refl (flat refl (not-this (λ e. z (sym e)) none)))))))))))))))))))) s p
-
--- ---- an accepted reading goes forward, and ends inside
-pub forward : (sc : Script) (s : List ℕ) (at : ℕ) → at ≤ length s → Accepted (follow sc s (from at)) → (at ≤ end-of (follow sc s (from at))) × (end-of (follow sc s (from at)) ≤ length s)
-unfolding end-of Owes
-forward sc s at i h = let g = given (follow sc s (from at)) h in rw (g .is) (ahead (g .found) (g .last) (rw (g .is) at (owes sc s (from at) i)))
-  where
-    ahead : (a : Found) (q : Place) → (at ≤ q .at) × (q .at ≤ length s) × (4 * q .steps + at ≤ 4 * 0 + q .at) → (at ≤ q .at) × (q .at ≤ length s)
-    ahead a q o = (o .0, o .1)
-
-pub forward-times : (sc : Script) (n : ℕ) (s : List ℕ) (at : ℕ) → at ≤ length s → Accepted (times n (follow sc) s (from at))
-    → (at ≤ end-of (times n (follow sc) s (from at))) × (end-of (times n (follow sc) s (from at)) ≤ length s)
-forward-times sc n s at i h =
-    let e : follow (repeat n sc (λ a. give a)) s (from at) ≡ times n (follow sc) s (from at) = repeat-is n sc s (from at) in
-    rw (← e) (forward (repeat n sc (λ a. give a)) s at i (rw e h))

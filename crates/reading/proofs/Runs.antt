@@ -1,21 +1,21 @@
 -- Runs of datagrams: a run is its first datagram and then the rest of it. Assumes nothing.
 use Prim.Native.Nat.{ℕ, zero, suc, _+_, _*_, _≤_, _<_}
 use mathlib.Core.Bool.{Bool, true, false, cond}
-use mathlib.Core.Path.{_≡_, refl, sym, ap, _∙_, subst}
+use mathlib.Core.Path.{_≡_, refl, sym, ap, _∙_}
 use mathlib.Core.List.{List}
 use native.Mathlib.Omega.{arith}
-use borrow.Author.Tests.{leb-true, leb-false, le-leb, lt-leb, ne-eqb}
+use borrow.Author.Tests.{le-leb, lt-leb, ne-eqb}
 use lib.Dec.{eqb, leb}
 use lib.ListN.{length}
-use Rattle.reading.specs.Script.{Forest, bare, _⊕_, Found, nothing}
+use Rattle.reading.specs.Script.{_⊕_, Found, nothing}
 use Rattle.reading.specs.Cursor.{Place, Out, got, stop, then, follow}
 use Rattle.reading.specs.Layout.{only, depth-limit, datagram}
 use Rattle.reading.specs.Answer.{size, from, tried, datagrams}
-use Rattle.reading.proofs.Items.{never, Split, split}
+use Rattle.reading.proofs.Items.{never, split}
 use Rattle.reading.proofs.Steps.{Alike, both-got, both-stop, Steady, alike-then, alike-cond, steady}
 use Rattle.reading.proofs.Counts.{counted, size-joined}
 use Rattle.reading.proofs.Room.{last-place, thrifty-datagram, datagram-on}
-use Rattle.reading.proofs.Places.{Accepted, accepted, ranges-of, end-of, stopped, given, alike-accepted, alike-ranges, alike-end}
+use Rattle.reading.proofs.Places.{Accepted, end-of, given}
 
 -- ---- whatever the fuel, where there is enough of it
 module _ (s : List ℕ) where
@@ -116,12 +116,12 @@ module _ (s : List ℕ) where
       go : (b c : Bool) → b ≡ c → (x y : Out Found) → Alike x y → Alike (cond b (got nothing p) x) (cond c (got nothing q) y)
       go b c z x y h = rw z (alike-cond c (both-got e) h)
 
-  steady-run : Steady (run-from s)
+  pub steady-run : Steady (run-from s)
   unfolding run-from
   steady-run = steady-datagrams (length s)
 
   -- a run passes four bytes for each descriptor, and stays inside
-  thrifty-datagrams : (n : ℕ) (p : Place) {a : Found} {q : Place} → p .at ≤ length s → datagrams n s p ≡ got a q → (4 * size (a .ranges) + p .at ≤ q .at) × (q .at ≤ length s)
+  pub thrifty-datagrams : (n : ℕ) (p : Place) {a : Found} {q : Place} → p .at ≤ length s → datagrams n s p ≡ got a q → (4 * size (a .ranges) + p .at ≤ q .at) × (q .at ≤ length s)
   unfolding datagrams tried size
   thrifty-datagrams zero p {a} {q} h e = none p a q h e
   thrifty-datagrams (suc n) p {a} {q} h e = go (λ r b v. thrifty-datagrams n r {a = b} {q = v}) (leb (length s) (p .at)) (follow datagram s p) refl e
@@ -147,71 +147,6 @@ module _ (s : List ℕ) where
   unfolding run-from
   thrifty-run at h e = thrifty-datagrams (length s) (from at) h e
 
-  forward-run : (at : ℕ) → at ≤ length s → Accepted (run-from s (from at)) → end-of (run-from s (from at)) ≤ length s
+  pub forward-run : (at : ℕ) → at ≤ length s → Accepted (run-from s (from at)) → end-of (run-from s (from at)) ≤ length s
   unfolding end-of
   forward-run at h g = let t = given (run-from s (from at)) g in rw (t .is) (thrifty-run at h (t .is) .1)
-
--- ---- a run that goes on, taken apart
-pub record Run-at (s : List ℕ) (at : ℕ) : Type 0 where
-  pub first : Accepted (follow datagram s (from at))
-  pub rest : Accepted (run-from s (from (end-of (follow datagram s (from at)))))
-  pub ranges : ranges-of (run-from s (from at)) ≡ ranges-of (follow datagram s (from at)) ⊕ ranges-of (run-from s (from (end-of (follow datagram s (from at)))))
-  pub end : end-of (run-from s (from at)) ≡ end-of (run-from s (from (end-of (follow datagram s (from at)))))
-
-module _ (s : List ℕ) (at : ℕ) (i : at ≤ length s) (g : Accepted (run-from s (from at))) where
-  -- what a datagram that was not read leaves of a run
-  ended : (c a n : ℕ) → Accepted (tried (stop c a n) (from at) (run-from s)) → tried (stop c a n) (from at) (run-from s) ≡ got nothing (record { at = at; steps = n })
-  unfolding tried
-  ended c a n h = go (eqb c 2) h
-    where
-      go : (b : Bool) → Accepted (cond b (got nothing (record { at = at; steps = n })) (stop c a n)) → cond b (got nothing (record { at = at; steps = n })) (stop c a n) ≡ got nothing (record { at = at; steps = n })
-      go true h = refl
-      go false h = absurd (stopped h)
-
-  pub run-lies : at < end-of (run-from s (from at)) → Run-at s at
-  unfolding end-of ranges-of tried
-  run-lies h =
-      let f = forward-run s at i g in
-      let j : at < length s = omega (arith, f) in
-      go (follow datagram s (from at)) refl (run-on s (from at) j)
-    where
-      go : (o : Out Found) → follow datagram s (from at) ≡ o → run-from s (from at) ≡ tried o (from at) (run-from s) → Run-at s at
-      go (stop c a n) e r =
-          let x = ended c a n (subst Accepted r g) in
-          let z : end-of (run-from s (from at)) ≡ at = ap end-of (r ∙ x) in
-          absurd (omega (arith, h, z))
-      go (got d q) e r =
-          let t = given (run-from s (from at)) g in
-          let v = split (run-from s q) _ (sym r ∙ t .is) in
-          let k = steady-run s q (from (q .at)) refl in
-          let w : Accepted (run-from s q) = subst Accepted (sym (v .first)) accepted in
-          let x : v .value .ranges ≡ ranges-of (run-from s (from (q .at))) = ap ranges-of (sym (v .first)) ∙ alike-ranges k in
-          let y : v .place .at ≡ end-of (run-from s (from (q .at))) = ap end-of (sym (v .first)) ∙ alike-end k w in
-          let l : run-from s (from at) ≡ got (only (d .ranges ⊕ v .value .ranges)) (v .place) = r ∙ ap (λ (o : Out Found). then o (λ f e. got (only (d .ranges ⊕ f .ranges)) e)) (v .first) in
-          parts (q .at) (ap end-of e) (alike-accepted k w)
-          (ap ranges-of l ∙ ap (λ (f : Forest). d .ranges ⊕ f) x ∙ ap (λ (f : Forest). f ⊕ ranges-of (run-from s (from (q .at)))) (sym (ap ranges-of e)))
-          (ap end-of l ∙ y)
-        where
-          parts : (m : ℕ) → end-of (follow datagram s (from at)) ≡ m → Accepted (run-from s (from m))
-              → ranges-of (run-from s (from at)) ≡ ranges-of (follow datagram s (from at)) ⊕ ranges-of (run-from s (from m)) → end-of (run-from s (from at)) ≡ end-of (run-from s (from m)) → Run-at s at
-          parts m z x y w = record { first = subst Accepted (sym e) accepted; rest = rw (← z) at x; ranges = rw (← z) at y; end = rw (← z) at w }
-
-  -- and one that ends here
-  pub run-bare : end-of (run-from s (from at)) ≤ at → ranges-of (run-from s (from at)) ≡ bare
-  unfolding ranges-of end-of run-from tried
-  run-bare h = go (leb (length s) at) refl
-    where
-      tries : (o : Out Found) → follow datagram s (from at) ≡ o → run-from s (from at) ≡ tried o (from at) (run-from s) → ranges-of (run-from s (from at)) ≡ bare
-      tries (stop c a n) e r = ap ranges-of (r ∙ ended c a n (subst Accepted r g))
-      tries (got d q) e r =
-          let f = datagram-on depth-limit s (from at) i e in
-          let t = given (run-from s (from at)) g in
-          let v = split (run-from s q) _ (sym r ∙ t .is) in
-          let k = thrifty-datagrams s (length s) q (f .1) (v .first) in
-          let z = ap (λ (p : Place). p .at) (last-place (v .second)) in
-          let y = ap end-of (t .is) in
-          absurd (omega (arith, f .0, k .0, z, y, h))
-
-      go : (b : Bool) → leb (length s) at ≡ b → ranges-of (run-from s (from at)) ≡ bare
-      go true e = ap ranges-of (run-over s (from at) (leb-true (length s) at e))
-      go false e = tries (follow datagram s (from at)) refl (run-on s (from at) (leb-false (length s) at e))

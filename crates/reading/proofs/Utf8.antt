@@ -1,14 +1,12 @@
 -- What stands in front of a list of bytes, and what it says of the whole: a run of UTF8-1, or one sequence. Assumes nothing.
-use Prim.Native.Nat.{ℕ, zero, suc, _+_, _-_, _≤_, _<_}
+use Prim.Native.Nat.{ℕ, zero, suc, _-_, _≤_, _<_}
 use mathlib.Core.Path.{_≡_, refl, sym, _∙_, ap}
 use mathlib.Core.Bool.{Bool, true, false, cond}
 use mathlib.Core.List.{List, [], _∷_}
 use native.Mathlib.Omega.{arith}
-use native.Mathlib.Numerals.{add-one}
 use borrow.Author.Tests.{leb-true, leb-false, le-leb, lt-leb}
-use lib.ListN.{length, drop, getD, length-drop, drop-of-length-le}
-use lib.Seq.{drop-cons, drop-drop, getD-drop}
-use lib.Dec.{leb, leb·suc-suc, leb·suc-zero}
+use lib.ListN.{length, drop}
+use lib.Dec.{leb}
 use Rattle.reading.specs.Utf8.{_&_, _or_, among, tail, utf8-1, utf8-2, utf8-3, utf8-4, utf8}
 
 -- how many bytes in front are UTF8-1
@@ -17,15 +15,15 @@ plain [] = 0
 plain (a ∷ s) = cond (utf8-1 a) (suc (plain s)) 0
 
 -- how many bytes the sequence in front has, and 0 where no row of the table fits: the rows of four bytes, after a, b and c
-abbrev width-4 : ℕ → ℕ → ℕ → List ℕ → ℕ
+abbrev pub width-4 : ℕ → ℕ → ℕ → List ℕ → ℕ
 width-4 a b c [] = 0
 width-4 a b c (d ∷ s) = cond (utf8-4 a b c d) 4 0
 
-abbrev width-3 : ℕ → ℕ → List ℕ → ℕ
+abbrev pub width-3 : ℕ → ℕ → List ℕ → ℕ
 width-3 a b [] = 0
 width-3 a b (c ∷ s) = cond (utf8-3 a b c) 3 (width-4 a b c s)
 
-abbrev width-2 : ℕ → List ℕ → ℕ
+abbrev pub width-2 : ℕ → List ℕ → ℕ
 width-2 a [] = 0
 width-2 a (b ∷ s) = cond (utf8-2 a b) 2 (width-3 a b s)
 
@@ -35,7 +33,7 @@ width [] = 0
 width (a ∷ s) = cond (utf8-1 a) 1 (width-2 a s)
 
 -- one test of a chain: shut, so that a search finds its way through the chain
-pub pick : {A : Type 0} → Bool → A → A → A
+unfoldable pub pick : {A : Type 0} → Bool → A → A → A
 pick x u v = cond x u v
 
 -- what n bytes in front leave: nothing well-formed, where n is 0
@@ -160,7 +158,7 @@ after-cond true m n t = refl
 after-cond false m n t = refl
 
 -- the width in front says what is left to decide
-by-width : (a : ℕ) (s : List ℕ) → utf8 (a ∷ s) ≡ after (width (a ∷ s)) (a ∷ s)
+pub by-width : (a : ℕ) (s : List ℕ) → utf8 (a ∷ s) ≡ after (width (a ∷ s)) (a ∷ s)
 unfolding utf8 width
 by-width a [] = simp after-cond (alone (utf8-1 a))
 by-width a (b ∷ []) =
@@ -190,164 +188,3 @@ past-width (a ∷ s) h = go (width (a ∷ s)) h ∙ sym (by-width a s)
     go : (n : ℕ) → 0 < n → utf8 (drop n (a ∷ s)) ≡ after n (a ∷ s)
     go zero h = absurd (omega arith)
     go (suc n) h = refl
-
--- a sequence and a run lie within the bytes
-cond-le : (x : Bool) (m n k : ℕ) → m ≤ k → n ≤ k → cond x m n ≤ k
-cond-le true m n k h l = h
-cond-le false m n k h l = l
-
-width-length : (t : List ℕ) → width t ≤ length t
-unfolding width
-width-length [] = omega arith
-width-length (a ∷ []) = cond-le (utf8-1 a) _ _ _ (omega arith) (omega arith)
-width-length (a ∷ b ∷ []) = cond-le (utf8-1 a) _ _ _ (omega arith) (cond-le (utf8-2 a b) _ _ _ (omega arith) (omega arith))
-width-length (a ∷ b ∷ c ∷ []) =
-    cond-le (utf8-1 a) _ _ _ (omega arith) (cond-le (utf8-2 a b) _ _ _ (omega arith) (cond-le (utf8-3 a b c) _ _ _ (omega arith) (omega arith)))
-width-length (a ∷ b ∷ c ∷ d ∷ s) =
-    cond-le (utf8-1 a) _ _ _ (omega arith)
-    (cond-le (utf8-2 a b) _ _ _ (omega arith)
-    (cond-le (utf8-3 a b c) _ _ _ (omega arith)
-    (cond-le (utf8-4 a b c d) _ _ _ (omega arith) (omega arith))))
-
-plain-length : (t : List ℕ) → plain t ≤ length t
-unfolding plain
-plain-length [] = omega arith
-plain-length (a ∷ s) = go (utf8-1 a) (plain-length s)
-  where
-    go : (x : Bool) → plain s ≤ length s → cond x (suc (plain s)) 0 ≤ suc (length s)
-    go true h = omega arith
-    go false h = omega arith
-
--- the run of UTF8-1 in front: it can be passed, and so can a part of it
-pub past-plain : (i : ℕ) (t : List ℕ) → i ≤ plain t → utf8 (drop i t) ≡ utf8 t
-unfolding plain width
-past-plain zero t h = refl
-past-plain (suc i) [] h = refl
-past-plain (suc i) (a ∷ s) h = go (utf8-1 a) refl h (past-plain i s)
-  where
-    go : (x : Bool) → utf8-1 a ≡ x → suc i ≤ cond x (suc (plain s)) 0 → (i ≤ plain s → utf8 (drop i s) ≡ utf8 s) → utf8 (drop i s) ≡ utf8 (a ∷ s)
-    go true e h f = f (omega arith) ∙ sym (by-width a s ∙ rw e)
-    go false e h f = absurd (omega arith)
-
-plain-drop : (i : ℕ) (t : List ℕ) → i ≤ plain t → plain t ≡ i + plain (drop i t)
-unfolding plain
-plain-drop zero t h = omega arith
-plain-drop (suc i) [] h = absurd (omega arith)
-plain-drop (suc i) (a ∷ s) h = go (utf8-1 a) h (plain-drop i s)
-  where
-    go : (x : Bool) → suc i ≤ cond x (suc (plain s)) 0 → (i ≤ plain s → plain s ≡ i + plain (drop i s)) → cond x (suc (plain s)) 0 ≡ suc i + plain (drop i s)
-    go true h f = omega (arith, f (omega arith))
-    go false h f = absurd (omega arith)
-
--- one byte more is in the run where the run reaches it and it is UTF8-1
-plain-more : (i : ℕ) (t : List ℕ) → i < length t → (leb i (plain t) & utf8-1 (getD t i 0)) ≡ leb (suc i) (plain t)
-unfolding plain
-plain-more i [] h = absurd (omega arith)
-plain-more zero (a ∷ s) h = go (utf8-1 a)
-  where
-    go : (x : Bool) → (leb 0 (cond x (suc (plain s)) 0) & x) ≡ leb 1 (cond x (suc (plain s)) 0)
-    go true = simp (le-leb 0 (suc (plain s)) (omega arith), le-leb 1 (suc (plain s)) (omega arith))
-    go false = refl
-plain-more (suc i) (a ∷ s) h = go (utf8-1 a) (plain-more i s (omega arith))
-  where
-    go : (x : Bool) → (leb i (plain s) & utf8-1 (getD s i 0)) ≡ leb (suc i) (plain s)
-        → (leb (suc i) (cond x (suc (plain s)) 0) & utf8-1 (getD s i 0)) ≡ leb (suc (suc i)) (cond x (suc (plain s)) 0)
-    go true e = simp leb·suc-suc e
-    go false e = simp leb·suc-zero
-
--- the same at a place of the bytes, as code has it
-module _ (s : List ℕ) (at : ℕ) where
-  pub plain-room : plain (drop at s) ≤ length s - at
-  plain-room = rw (← length-drop at s) (plain-length (drop at s))
-
-  pub width-room : width (drop at s) ≤ length s - at
-  width-room = rw (← length-drop at s) (width-length (drop at s))
-
-  pub plain-past : (i : ℕ) → i ≤ plain (drop at s) → plain (drop at s) ≡ i + plain (drop (at + i) s)
-  plain-past i h = rw (← drop-drop i at s) (plain-drop i (drop at s) h)
-
-  pub plain-on : (k : ℕ) {i r : ℕ} → r ≡ i + plain (drop i s) → i ≡ at + k → k ≤ plain (drop at s) → r ≡ at + plain (drop at s)
-  plain-on k e f h = let g = ap (λ (i : ℕ). plain (drop i s)) f in omega (arith, plain-past k h)
-
-  pub plain-byte : (i : ℕ) {x y : Bool} → x ≡ leb i (plain (drop at s)) → y ≡ utf8-1 (getD s (at + i) 0) → at + i < length s
-      → (x & y) ≡ leb (i + 1) (plain (drop at s))
-  plain-byte i e f h =
-      both e f ∙ rw (add-one i, ← getD-drop at s i 0) (plain-more i (drop at s) (rw (length-drop at s) (omega arith)))
-
-  pub plain-here : {x : Bool} → x ≡ utf8-1 (getD s at 0) → at < length s → plain (drop at s) ≡ cond x (suc (plain (drop (at + 1) s))) 0
-  unfolding plain
-  plain-here e h = ap plain (drop-cons s at 0 h) ∙ rw (← e, add-one at)
-
-  -- the places past a run and past a sequence
-  pub run-room : {r : ℕ} → r ≡ at + plain (drop at s) → at ≤ length s → r ≤ length s
-  run-room e h = omega (arith, plain-room)
-
-  pub run-less : {x : Bool} (r : ℕ) → x ≡ utf8-1 (getD s at 0) → x ≡ true → at < length s → r ≡ at + plain (drop at s) → length s - r < length s - at
-  run-less r e t h f = omega (arith, plain-here (sym t ∙ e) h, plain-room)
-
-  pub sequence-room : {n : ℕ} → n ≡ width (drop at s) → at ≤ length s → at + n ≤ length s
-  sequence-room e h = omega (arith, width-room)
-
--- ways through a chain of tests
-module _ {A : Type 0} (u v : A) {r : A} where
-  pub taken : {x y : Bool} → x ≡ y → x ≡ true → r ≡ u → r ≡ pick y u v
-  unfolding pick
-  taken e t h = rw (sym e ∙ t) h
-
-  pub left : {x y : Bool} → x ≡ y → x ≡ false → r ≡ v → r ≡ pick y u v
-  unfolding pick
-  left e t h = rw (sym e ∙ t) h
-
-  pub room : (m n : ℕ) → m ≤ n → r ≡ u → r ≡ pick (leb m n) u v
-  unfolding pick
-  room m n t h = rw (le-leb m n t) h
-
-  pub short : (m n : ℕ) → n < m → r ≡ v → r ≡ pick (leb m n) u v
-  unfolding pick
-  short m n t h = rw (lt-leb m n t) h
-
--- what waits for one byte more, at a place: the byte is there, or there is nothing
-opened : (f : List ℕ → ℕ) → f [] ≡ 0 → (s : List ℕ) (at i : ℕ) → f (drop (at + i) s) ≡ cond (leb (i + 1) (length s - at)) (f (getD s (at + i) 0 ∷ drop (at + (i + 1)) s)) 0
-opened f e s at i = go (leb (i + 1) (length s - at)) refl
-  where
-    go : (x : Bool) → leb (i + 1) (length s - at) ≡ x → f (drop (at + i) s) ≡ cond x (f (getD s (at + i) 0 ∷ drop (at + (i + 1)) s)) 0
-    go true t = let h : at + i < length s = omega (arith, leb-true) in let m : suc (at + i) ≡ at + (i + 1) = omega arith in rw (drop-cons s (at + i) 0 h, m)
-    go false t = let h : length s ≤ at + i = omega (arith, leb-false) in rw (drop-of-length-le s h) e
-
--- the width by its tests, in the table's order
-pub width-at : (s : List ℕ) (at : ℕ) {r : ℕ} → at < length s
-    → r
-    ≡ pick (utf8-1 (getD s at 0)) 1
-    (pick (leb 2 (length s - at))
-    (pick (utf8-2 (getD s at 0) (getD s (at + 1) 0)) 2
-    (pick (leb 3 (length s - at))
-    (pick (utf8-3 (getD s at 0) (getD s (at + 1) 0) (getD s (at + 2) 0)) 3
-    (pick (leb 4 (length s - at)) (pick (utf8-4 (getD s at 0) (getD s (at + 1) 0) (getD s (at + 2) 0) (getD s (at + 3) 0)) 4 0) 0))
-    0))
-    0)
-    → r ≡ width (drop at s)
-unfolding width pick
-width-at s at h e =
-    let m : suc at ≡ at + 1 = omega arith in
-    e ∙ sym (rw (
-      drop-cons s at 0 h,
-      m,
-      opened (width-2 (getD s at 0)) refl s at 1,
-      opened (width-3 (getD s at 0) (getD s (at + 1) 0)) refl s at 2,
-      opened (width-4 (getD s at 0) (getD s (at + 1) 0) (getD s (at + 2) 0)) refl s at 3,
-    ))
-
--- what is left decides as the whole does: at the end, past a run, past a sequence, and where there is none
-module _ (s : List ℕ) (at : ℕ) (same : utf8 (drop at s) ≡ utf8 s) where
-  pub all-passed : length s ≤ at → true ≡ utf8 s
-  unfolding utf8
-  all-passed h = rw (drop-of-length-le s h) at same
-
-  pub run-passed : {r : ℕ} → r ≡ at + plain (drop at s) → utf8 (drop r s) ≡ utf8 s
-  run-passed e = rw (e, ← drop-drop (plain (drop at s)) at s) (past-plain (plain (drop at s)) (drop at s) (omega arith) ∙ same)
-
-  pub sequence-passed : {n : ℕ} → n ≡ width (drop at s) → (n ≡ 0 → ⊥) → utf8 (drop (at + n) s) ≡ utf8 s
-  sequence-passed {n} e h = rw (← drop-drop n at s, e) (past-width (drop at s) (omega arith) ∙ same)
-
-  pub none-there : {n : ℕ} → n ≡ width (drop at s) → n ≡ 0 → at < length s → false ≡ utf8 s
-  none-there e z h = sym (ill-formed (drop at s) (rw (length-drop at s) (omega arith)) (sym e ∙ z)) ∙ same

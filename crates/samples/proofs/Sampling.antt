@@ -28,7 +28,7 @@ use Rattle.flows.specs.declared.frames.Frame.the-variants as frame
 use Rattle.flows.specs.declared.frames.Scanned.{Scanned}
 use Rattle.flows.specs.declared.frames.Scanned.the-variants as scanned
 use Rattle.flows.specs.Scanned.{Scan, frame-out, scanned-out}
-use Rattle.flows.specs.Chain.{Then, goes, halts, Sure, There}
+use Rattle.flows.specs.Chain.{Then, goes, halts, There}
 use Rattle.flows.proofs.Chain.{within-start}
 use Rattle.flows.proofs.Scan.{scan-inside, Thrift, scan-on, scan-done, scan-turn, scan-stop, frame-ends, frame-fits, frame-part, frame-counts, frame-scan}
 use Rattle.samples.specs.Held.{Counted, on, over, Has-last, rest-of}

@@ -8,7 +8,6 @@ use borrow.Author.Tests.{ne-eqb}
 use Rattle.reading.specs.Script.{Value}
 use Rattle.reading.specs.Cursor.{Out, got, stop}
 use Rattle.reading.specs.Layout.{Field}
-use Rattle.reading.specs.Values.{alone}
 use Rattle.reading.specs.Answer.{Fields, answered}
 use Rattle.reading.proofs.Fields.{fields-out, reads-shown, halts-shown, alone-halts}
 use Rattle.reading.proofs.Faults.{fair}
@@ -17,7 +16,7 @@ use Rattle.xdr.specs.declared.Cursor.{Cursor}
 use Rattle.xdr.specs.declared.Outcome.{Outcome}
 use Rattle.xdr.specs.declared.Passed.{Passed}
 use Rattle.xdr.specs.declared.Passed.the-variants as passed
-use Rattle.xdr.specs.Shown.{place, passed-of, answer-of, shown, Reads, Answers}
+use Rattle.xdr.specs.Shown.{place, passed-of, answer-of, Reads, Answers}
 
 module _ {o : Outcome} where
   pub goes-on : o .code ≡ 0 → passed.Got (record { at = o .at; steps = o .steps }) ≡ passed-of o

@@ -5,7 +5,8 @@ use native.Mathlib.Omega.{arith}
 use borrow.Author.Needs.{needs}
 use lib.Dec.{leb, leb·zero}
 use lib.ListN.{drop}
-use Rattle.reading.proofs.Utf8.{plain, plain-byte}
+use Rattle.reading.proofs.Utf8.{plain}
+use Rattle.reading.proofs.Utf8Places.{plain-byte}
 use Rattle.xdr.proofs.utf8.block.Statement.{statement}
 use Rattle.xdr.proofs.utf8.block.Tie as tie
 

@@ -1,6 +1,7 @@
 -- `xdr::utf8::four` meets its contract: each row of the table is a way through. Assumes nothing.
 use borrow.Author.Needs.{needs}
-use Rattle.reading.proofs.Utf8.{rows-4, taken, left, all-three}
+use Rattle.reading.proofs.Utf8.{rows-4, all-three}
+use Rattle.reading.proofs.Utf8Places.{taken, left}
 use Rattle.xdr.proofs.utf8.four.Statement.{statement}
 use Rattle.xdr.proofs.utf8.four.Tie as tie
 

@@ -5,7 +5,7 @@ use native.Mathlib.Omega.{arith}
 use borrow.Author.Needs.{needs}
 use lib.ListN.{length, drop}
 use Rattle.reading.specs.Utf8.{utf8}
-use Rattle.reading.proofs.Utf8.{width-room, all-passed, run-passed, run-room, run-less, sequence-passed, sequence-room, none-there}
+use Rattle.reading.proofs.Utf8Places.{width-room, all-passed, run-passed, run-room, run-less, sequence-passed, sequence-room, none-there}
 use Rattle.xdr.proofs.utf8.is_utf8.Statement.{statement}
 use Rattle.xdr.proofs.utf8.is_utf8.Tie as tie
 

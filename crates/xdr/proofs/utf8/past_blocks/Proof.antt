@@ -5,7 +5,8 @@ use native.Mathlib.Omega.{arith}
 use borrow.Author.Needs.{needs}
 use borrow.Author.Tests.{leb-true, leb-false}
 use lib.ListN.{length, drop}
-use Rattle.reading.proofs.Utf8.{plain, plain-past, plain-room}
+use Rattle.reading.proofs.Utf8.{plain}
+use Rattle.reading.proofs.Utf8Places.{plain-past, plain-room}
 use Rattle.xdr.proofs.utf8.past_blocks.Statement.{statement}
 use Rattle.xdr.proofs.utf8.past_blocks.Tie as tie
 

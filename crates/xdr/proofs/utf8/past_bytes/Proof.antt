@@ -4,7 +4,8 @@ use mathlib.Core.Path.{_≡_, sym, _∙_}
 use native.Mathlib.Omega.{arith}
 use borrow.Author.Needs.{needs}
 use lib.ListN.{length, drop}
-use Rattle.reading.proofs.Utf8.{plain, plain-here, plain-room}
+use Rattle.reading.proofs.Utf8.{plain}
+use Rattle.reading.proofs.Utf8Places.{plain-here, plain-room}
 use Rattle.xdr.proofs.utf8.past_bytes.Statement.{statement}
 use Rattle.xdr.proofs.utf8.past_bytes.Tie as tie
 

@@ -1,7 +1,7 @@
 -- `xdr::utf8::past_run` meets its contract. Assumes nothing.
 use native.Mathlib.Omega.{arith}
 use borrow.Author.Needs.{needs}
-use Rattle.reading.proofs.Utf8.{plain-room, plain-on}
+use Rattle.reading.proofs.Utf8Places.{plain-room, plain-on}
 use Rattle.xdr.proofs.utf8.past_run.Statement.{statement}
 use Rattle.xdr.proofs.utf8.past_run.Tie as tie
 

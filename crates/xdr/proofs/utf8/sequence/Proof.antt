@@ -1,6 +1,6 @@
 -- `xdr::utf8::sequence` meets its contract: each answer is a way through the tests. Assumes nothing.
 use borrow.Author.Needs.{needs}
-use Rattle.reading.proofs.Utf8.{width-at, taken, left, room, short}
+use Rattle.reading.proofs.Utf8Places.{width-at, taken, left, room, short}
 use Rattle.xdr.proofs.utf8.sequence.Statement.{statement}
 use Rattle.xdr.proofs.utf8.sequence.Tie as tie
 

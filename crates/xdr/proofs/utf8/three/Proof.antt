@@ -1,6 +1,7 @@
 -- `xdr::utf8::three` meets its contract: each row of the table is a way through. Assumes nothing.
 use borrow.Author.Needs.{needs}
-use Rattle.reading.proofs.Utf8.{rows-3, taken, left, both}
+use Rattle.reading.proofs.Utf8.{rows-3, both}
+use Rattle.reading.proofs.Utf8Places.{taken, left}
 use Rattle.xdr.proofs.utf8.three.Statement.{statement}
 use Rattle.xdr.proofs.utf8.three.Tie as tie
 
