@@ -1,0 +1,341 @@
+//! One input: the library's answers against the crate's and against document 01's reading.
+
+use crate::fault::Library;
+use crate::paper::{self, Opened, Reading};
+use crate::shape::*;
+use crate::structure::{self, Held, Node};
+use crate::tally::{same, Checked, Difference, Key, Tally};
+use crate::value::{sixteen, Value};
+use sflow_parser::models::core::{Address, DropReason, SFlowDatagram};
+use sflow_parser::models::record_flows::{AsPathSegment, AsPathType, UrlDirection};
+use sflow_parser::parsers::{parse_datagram, parse_datagrams, ParseError};
+use std::panic::catch_unwind;
+
+/// A format word that the crate keeps raw in every place.
+const KEPT_RAW: u32 = 4097;
+
+/// What the crate answers: its datagrams, or document 01's code for its refusal.
+type Theirs = Result<Vec<SFlowDatagram>, u32>;
+
+fn theirs(parse: impl Fn() -> Result<Vec<SFlowDatagram>, ParseError> + std::panic::UnwindSafe) -> Theirs {
+    match catch_unwind(parse) {
+        Ok(answer) => answer.map_err(|error| structure::code_of(&error)),
+        Err(_) => Err(u32::MAX),
+    }
+}
+
+/// The library's answer to one datagram or a run: code, position, steps and needed; the header's values; the descriptors.
+struct Ours {
+    answer: (u32, usize, usize, usize),
+    header: Vec<Value>,
+    store: Vec<[u32; 6]>,
+}
+
+/// What every word of a lent store holds beforehand.
+fn lent(words: usize) -> Vec<u32> {
+    (0..words as u32).map(|n| 0xa5a5_0000 ^ n.wrapping_mul(0x9e37_79b9)).collect()
+}
+
+pub struct Judge {
+    pub tally: Tally,
+    library: Library,
+    /// The differences of the case at hand.
+    found: Vec<Difference>,
+}
+
+impl Judge {
+    pub fn new(fault: u32) -> Self {
+        Judge { tally: Tally::default(), library: Library { fault }, found: Vec::new() }
+    }
+
+    /// Compares one input, as a datagram and as a run.
+    pub fn case(&mut self, data: &[u8]) {
+        self.tally.cases += 1;
+        self.tally.bytes += data.len() as u64;
+        let (one, run) = (paper::decode(data), paper::decode_run(data));
+        self.count(&one, &run);
+        self.judge(data, &one, false);
+        self.judge(data, &run, true);
+        self.tally.differ += u64::from(!self.found.is_empty());
+        for found in std::mem::take(&mut self.found) {
+            self.tally.note(found, data);
+        }
+    }
+
+    /// Asks both judges, whatever the first one finds.
+    fn judge(&mut self, data: &[u8], reading: &Reading, run: bool) {
+        let by_paper = self.answers(data, reading, run);
+        let crates = if run { theirs(|| parse_datagrams(data)) } else { theirs(|| parse_datagram(data).map(|datagram| vec![datagram])) };
+        let by_crate = self.against(data, reading, &crates, run);
+        self.found.extend([by_paper, by_crate].into_iter().filter_map(Result::err));
+    }
+
+    fn count(&mut self, reading: &Reading, run: &Reading) {
+        self.tally.reach(Key::Code(reading.code));
+        self.tally.reach(Key::RunCode(run.code));
+        if reading.code >= 2 {
+            self.tally.reach(Key::Refusal(reading.code, reading.place));
+        }
+        self.tally.accepted += u64::from(reading.code == 0);
+        for [kind, format, _, _, _, depth] in &reading.store {
+            match (*kind, layout_of(*kind, *format)) {
+                (SAMPLE, Some(_)) => self.tally.reach(Key::Sample(*format)),
+                (FLOW, Some(_)) => self.tally.reach(Key::Flow(*format)),
+                (DATAGRAM | PDU, _) => {}
+                (kind, _) => self.tally.reach(Key::Raw(kind)),
+            }
+            if matches!(*kind, FLOW | COUNTER) {
+                self.tally.reach(Key::Depth(*depth));
+            }
+        }
+        for opened in &reading.opened {
+            self.tally.reach(Key::Opened(opened.kind, opened.format));
+        }
+    }
+
+    /// The library with this much room, and whether the store is as it must be.
+    fn call(&self, data: &[u8], words: usize, run: bool) -> Result<Ours, Difference> {
+        let mut store = lent(words);
+        let (answer, header) = if run {
+            (self.library.decode_run(data, &mut store), Vec::new())
+        } else {
+            let got = self.library.decode(data, &mut store);
+            (got.answer, got.values())
+        };
+        let written = if answer.code == 0 { answer.needed.saturating_mul(6).min(words) } else { 0 };
+        same("store: words behind the last descriptor", &&store[written..], &&lent(words)[written..])?;
+        let store = store[..written].chunks_exact(6).map(|words| words.try_into().unwrap()).collect();
+        Ok(Ours { answer: (answer.code, answer.at, answer.steps, answer.needed), header, store })
+    }
+
+    /// The library against document 01's reading, with room, without, and field by field.
+    fn answers(&mut self, data: &[u8], reading: &Reading, run: bool) -> Checked {
+        let of = if run { "run" } else { "decode" };
+        let needed = reading.store.len();
+        let spare = (data.len() * 7 + needed) % 12;
+        let ours = self.call(data, needed * 6 + spare, run)?;
+        same(&format!("{of}: code"), &ours.answer.0, &reading.code)?;
+        same(&format!("{of}: position"), &ours.answer.1, &reading.at)?;
+        same(&format!("{of}: steps"), &ours.answer.2, &reading.steps)?;
+        same(&format!("{of}: descriptors needed"), &ours.answer.3, &needed)?;
+        same(&format!("{of}: descriptors"), &ours.store, &reading.store)?;
+        if !run {
+            header_is(&ours.header, &reading.header)?;
+        }
+        self.too_little_room(data, reading, run)?;
+        for (index, descriptor) in ours.store.iter().enumerate() {
+            self.fields(data, descriptor)?;
+            self.changed_fields(data, descriptor, index + data.len())?;
+        }
+        Ok(())
+    }
+
+    /// A refusal that is not for want of room is the same with no room at all.
+    fn too_little_room(&mut self, data: &[u8], reading: &Reading, run: bool) -> Checked {
+        let needed = reading.store.len();
+        let words = if needed == 0 { 0 } else { (needed - 1) * 6 + data.len() % 6 };
+        let ours = self.call(data, words, run)?;
+        let expected = match (reading.code, needed) {
+            (0, 1..) => (9, 0, reading.steps, needed),
+            (code, _) => (code, reading.at, reading.steps, 0),
+        };
+        if expected.0 == 9 {
+            self.tally.reach(if run { Key::RunCode(9) } else { Key::Code(9) });
+        }
+        same("too little room: answer", &ours.answer, &expected)?;
+        if !run {
+            header_is(&ours.header, &[])?;
+        }
+        Ok(())
+    }
+
+    /// The payload and the fields of one descriptor.
+    fn fields(&mut self, data: &[u8], descriptor: &[u32; 6]) -> Checked {
+        let [kind, format, start, length, _, _] = *descriptor;
+        let payload = self.library.payload(data, descriptor);
+        same("payload", &(payload.start, payload.count), &(start as usize, length as usize))?;
+        match LAYOUTS.iter().position(|row| (row.kind, row.format) == (kind, format)) {
+            Some(row) => self.reading(data, descriptor, row).map(|_| ()),
+            None => Ok(()),
+        }
+    }
+
+    /// One field reading against document 01's; answers its code.
+    fn reading(&self, data: &[u8], descriptor: &[u32; 6], row: usize) -> Result<u32, Difference> {
+        let layout = &LAYOUTS[row];
+        let name = format_args!("fields of {}/{}", layout.kind, layout.format).to_string();
+        let (outcome, values) = self.library.read(row, data, descriptor);
+        let (expected, held) = paper::fields(data, descriptor, layout);
+        same(&format!("{name}: outcome"), &(outcome.code, outcome.at, outcome.steps), &expected)?;
+        if expected.0 == 0 {
+            same(&name, &values, &held)?;
+        } else {
+            same(&format!("{name}: zero on a refusal"), &values.iter().all(Value::is_zero), &true)?;
+        }
+        Ok(expected.0)
+    }
+
+    /// A descriptor that is not one of the input's: another range, another kind, or another call.
+    fn changed_fields(&mut self, data: &[u8], descriptor: &[u32; 6], pick: usize) -> Checked {
+        let mut changed = *descriptor;
+        let own = LAYOUTS.iter().position(|row| (row.kind, row.format) == (descriptor[0], descriptor[1]));
+        let mut row = own.unwrap_or(pick % LAYOUTS.len());
+        match pick % 11 {
+            0 => changed[3] /= 2,
+            1 => changed[2] = changed[2].wrapping_add(4),
+            2 => changed[3] = changed[3].saturating_sub(1),
+            3 => changed[3] = u32::MAX,
+            4 => (changed[2], changed[3]) = (u32::MAX, 1),
+            5 => (changed[2], changed[3]) = (data.len() as u32, 0),
+            6 => changed[0] ^= 1,
+            7 => changed[1] ^= 1 << (pick / 11 % 32),
+            8 => changed[2] = changed[2].wrapping_sub(4),
+            9 => changed[3] = (data.len() as u32).wrapping_sub(changed[2]).wrapping_add(pick as u32 / 11 % 2),
+            _ => row = pick / 11 % LAYOUTS.len(),
+        }
+        let code = self.reading(data, &changed, row)?;
+        self.tally.reach(Key::FieldCode(code));
+        let inside = changed[2] as usize + changed[3] as usize <= data.len();
+        let expected = if inside { (changed[2] as usize, changed[3] as usize) } else { (0, 0) };
+        let payload = self.library.payload(data, &changed);
+        same("payload of a changed descriptor", &(payload.start, payload.count), &expected)
+    }
+
+    /// The library against the crate, as far as the input lies in the domain; what lies outside is counted, and brought inside.
+    fn against(&mut self, data: &[u8], reading: &Reading, crates: &Theirs, run: bool) -> Checked {
+        let code = crates.as_ref().map_or_else(|code| *code, |_| 0);
+        same("the crate's refusal has no code in document 01", &(code == u32::MAX), &false)?;
+        if matches!(reading.code, 1 | 8) {
+            self.tally.reach(if reading.code == 1 { Key::Long(code) } else { Key::Deep(code) });
+            return Ok(());
+        }
+        if reading.opened.is_empty() {
+            return self.equal(data, crates, run);
+        }
+        if run {
+            return self.brought_inside(data, reading, true);
+        }
+        self.tally.reach(Key::OpenedAnswer(reading.code, code));
+        match (reading.code, code) {
+            (0, 0) => self.equal(data, crates, false)?,
+            // What the crate opens it may refuse; it reads on where document 01 does, so it accepts nothing more.
+            (_, 0) => same("outside: code", &reading.code, &code)?,
+            _ => {}
+        }
+        self.brought_inside(data, reading, false)
+    }
+
+    /// Gives each record that only the crate opens a format word that it keeps raw. The answers must stay as they were, and the crate
+    /// judges them.
+    fn brought_inside(&mut self, data: &[u8], reading: &Reading, run: bool) -> Checked {
+        let mut inside = data.to_vec();
+        for Opened { at, .. } in &reading.opened {
+            inside[*at..*at + 4].copy_from_slice(&KEPT_RAW.to_be_bytes());
+        }
+        let again = if run { paper::decode_run(&inside) } else { paper::decode(&inside) };
+        let answer = |of: &Reading| (of.code, of.at, of.steps);
+        same("brought inside: answer", &answer(&again), &answer(reading))?;
+        let shape = |of: &Reading| of.store.iter().map(|d| [d[0], d[2], d[3], d[4], d[5]]).collect::<Vec<_>>();
+        same("brought inside: descriptors", &shape(&again), &shape(reading))?;
+        self.judge(&inside, &again, run);
+        Ok(())
+    }
+
+    fn equal(&self, data: &[u8], crates: &Theirs, run: bool) -> Checked {
+        let of = if run { "run" } else { "decode" };
+        let ours = self.call(data, data.len() / 4 * 6, run)?;
+        let datagrams = match crates {
+            Ok(datagrams) => datagrams,
+            Err(code) => return same(&format!("{of} and the crate: code"), &ours.answer.0, code),
+        };
+        same(&format!("{of} and the crate: code"), &ours.answer.0, &0)?;
+        let nodes = structure::nodes(datagrams);
+        same(&format!("{of} and the crate: how many descriptors"), &ours.store.len(), &nodes.len())?;
+        for (descriptor, node) in ours.store.iter().zip(&nodes) {
+            self.equal_node(data, descriptor, node)?;
+        }
+        Ok(())
+    }
+
+    fn equal_node(&self, data: &[u8], descriptor: &[u32; 6], node: &Node) -> Checked {
+        let [kind, format, _, _, parent, depth] = *descriptor;
+        let place = (node.kind, node.format, node.parent, node.depth);
+        same("the crate: kind, format, parent, depth", &(kind, format, parent, depth), &place)?;
+        same("the crate: which records it opens", &only_the_crate_opens(kind, format), &node.opened)?;
+        if let Some(raw) = node.raw {
+            let payload = self.library.payload(data, descriptor);
+            same("the crate: payload", &data.get(payload.start..payload.start + payload.count), &Some(raw))?;
+        }
+        if node.held.is_empty() {
+            return Ok(());
+        }
+        let name = format!("the crate: field of {kind}/{format}");
+        let Some(row) = LAYOUTS.iter().position(|row| (row.kind, row.format) == (kind, format)) else {
+            return same(&name, &"none", &"opened");
+        };
+        let (_, values) = self.library.read(row, data, descriptor);
+        same(&format!("{name}: how many"), &values.len(), &node.held.len())?;
+        for (index, (value, held)) in values.iter().zip(&node.held).enumerate() {
+            if !self.holds(data, *value, held) {
+                return Err(Difference { kind: format!("{name}, {index}"), detail: format!("{value:?}") });
+            }
+        }
+        Ok(())
+    }
+
+    /// Whether a field that the library answers is the one that the crate holds.
+    fn holds(&self, data: &[u8], value: Value, held: &Held) -> bool {
+        match (value, held) {
+            (Value::Word(word), Held::Word(own)) => word == *own,
+            (Value::Word(word), Held::Protocol(own)) => word == *own as u32,
+            // The crate's catch-all case matches every number that its table lacks.
+            (Value::Word(word), Held::Reason(own)) => DropReason::from_u32(word).unwrap_or(DropReason::Unknown) == *own,
+            (Value::Word(word), Held::Direction(own)) => UrlDirection::from(word) == *own,
+            (Value::Long(long), Held::Long(own)) => long == *own,
+            (Value::Block(bytes, 6), Held::Six(own)) => bytes[..6] == *own,
+            (Value::Block(bytes, 16), Held::Sixteen(own)) => bytes == *own,
+            (Value::Address(kind, bytes), Held::Address(own)) => match own {
+                Address::Unknown => kind == 0 && bytes == [0; 16],
+                Address::IPv4(four) => kind == 1 && bytes == sixteen(&four.octets()),
+                Address::IPv6(six) => kind == 2 && bytes == six.octets(),
+            },
+            (Value::Span(start, count), Held::Bytes(own)) => data.get(start..start + count) == Some(*own),
+            (Value::Span(start, count), Held::Words(own)) => self.is_list(data, start, count, own),
+            (Value::Span(start, count), Held::Path(own)) => self.is_path(data, start, count, own),
+            _ => false,
+        }
+    }
+
+    fn is_list(&self, data: &[u8], start: usize, count: usize, own: &[u32]) -> bool {
+        let word = |n| {
+            let listed = self.library.list_word(data, start, count, n);
+            (listed.present, listed.value)
+        };
+        count == own.len() && word(count) == (false, 0) && own.iter().enumerate().all(|(n, own)| word(n) == (true, *own))
+    }
+
+    fn is_path(&self, data: &[u8], start: usize, count: usize, own: &[AsPathSegment]) -> bool {
+        let mut at = start;
+        for segment in own {
+            let got = self.library.next_segment(data, at);
+            let steps = 2 + segment.path.len();
+            if got.outcome.code != 0 || got.outcome.steps != steps || AsPathType::from(got.kind) != segment.path_type {
+                return false;
+            }
+            if got.path.count != segment.path_length as usize || !self.is_list(data, got.path.start, got.path.count, &segment.path) {
+                return false;
+            }
+            at = got.outcome.at;
+        }
+        let behind = self.library.next_segment(data, data.len() + 1);
+        count == own.len() && behind.outcome.code == 10
+    }
+}
+
+/// The header of an answer: document 01's, or all zero. The version is not among its fields.
+fn header_is(ours: &[Value], expected: &[Value]) -> Checked {
+    match expected {
+        [] => same("decode: header on a refusal", &ours.iter().all(Value::is_zero), &true),
+        [_, rest @ ..] => same("decode: header", &ours, &rest),
+    }
+}

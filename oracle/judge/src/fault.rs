@@ -1,0 +1,115 @@
+//! The library as the comparison calls it. With a fault's number, its answers are spoilt in one way, so that `oracle/faults` can see
+//! whether the comparison notices. 0 is no fault.
+
+use crate::library::{self, Answer, Decoded, Listed, Outcome, Segment, Span};
+use crate::value::Value;
+
+/// What each fault does; the first is number 1.
+pub const FAULTS: [&str; 16] = [
+    "code 2 is given four bytes too late",
+    "an accepted datagram has a step too many",
+    "the header's sequence number has its bytes turned round",
+    "a PDU has the depth of the records in it",
+    "the word behind the last descriptor is written",
+    "a refusal writes the first word of the store",
+    "a list's words have their bytes turned round",
+    "every AS path segment is a set",
+    "a record at depth 9 is answered with 2",
+    "code 2 in a datagram refuses the run",
+    "the two addresses of an IPv6 packet have changed places",
+    "code 9 gives one descriptor too few",
+    "a payload has its pad with it",
+    "an ill-formed string is answered with 2",
+    "a raw record's format has lost its enterprise",
+    "a run's second datagram counts its parents from its own first descriptor",
+];
+
+pub struct Library {
+    pub fault: u32,
+}
+
+impl Library {
+    pub fn decode(&self, data: &[u8], store: &mut [u32]) -> Decoded {
+        let mut got = library::decode(data, store);
+        self.spoil_answer(&mut got.answer, store);
+        if self.fault == 3 {
+            got.sequence_number = got.sequence_number.swap_bytes();
+        }
+        got
+    }
+
+    pub fn decode_run(&self, data: &[u8], store: &mut [u32]) -> Answer {
+        let mut got = library::decode_run(data, store);
+        self.spoil_answer(&mut got, store);
+        if self.fault == 10 && got.code == 0 && got.at < data.len() {
+            got.code = 2;
+        }
+        if self.fault == 16 && got.code == 0 {
+            spoil_parents(store, got.needed);
+        }
+        got
+    }
+
+    pub fn read(&self, row: usize, data: &[u8], descriptor: &[u32; 6]) -> (Outcome, Vec<Value>) {
+        let (outcome, mut values) = library::read(row, data, descriptor);
+        if self.fault == 11 && row == 9 {
+            values.swap(2, 3);
+        }
+        (outcome, values)
+    }
+
+    pub fn payload(&self, data: &[u8], descriptor: &[u32; 6]) -> Span {
+        let mut span = library::payload(data, descriptor);
+        if self.fault == 13 {
+            span.count = span.count.next_multiple_of(4);
+        }
+        span
+    }
+
+    pub fn list_word(&self, data: &[u8], start: usize, count: usize, n: usize) -> Listed {
+        let mut listed = library::list_word(data, start, count, n);
+        if self.fault == 7 {
+            listed.value = listed.value.swap_bytes();
+        }
+        listed
+    }
+
+    pub fn next_segment(&self, data: &[u8], at: usize) -> Segment {
+        let mut segment = library::next_segment(data, at);
+        if self.fault == 8 {
+            segment.kind = 1;
+        }
+        segment
+    }
+
+    fn spoil_answer(&self, answer: &mut Answer, store: &mut [u32]) {
+        let written = answer.needed * 6;
+        match (self.fault, answer.code) {
+            (1, 2) => answer.at += 4,
+            (2, 0) => answer.steps += 1,
+            (4, 0) => spoil(store, written, |d| d[5] += u32::from(d[0] == 4)),
+            (5, 0) if written < store.len() => store[written] = 0,
+            (6, 1..) if !store.is_empty() => store[0] = 0,
+            (9, 8) | (14, 7) => answer.code = 2,
+            (12, 9) => answer.needed -= 1,
+            (15, 0) => spoil(store, written, |d| d[1] &= 0xfff),
+            _ => {}
+        }
+    }
+}
+
+fn spoil(store: &mut [u32], written: usize, change: impl Fn(&mut [u32])) {
+    store[..written].chunks_exact_mut(6).for_each(change);
+}
+
+fn spoil_parents(store: &mut [u32], needed: usize) {
+    let mut first = 0;
+    for index in 0..needed {
+        let descriptor = &mut store[index * 6..index * 6 + 6];
+        if descriptor[0] == 0 {
+            first = index as u32;
+        } else {
+            descriptor[4] -= first;
+        }
+    }
+}

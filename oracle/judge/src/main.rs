@@ -1,0 +1,93 @@
+//! Compares the library with the crate; see ../../run.
+
+mod compare;
+mod fault;
+mod grow;
+mod library;
+mod listed;
+mod make;
+mod paper;
+mod random;
+mod shape;
+mod structure;
+mod sweep;
+mod tally;
+mod text;
+mod tree;
+mod value;
+mod work;
+
+use std::process::exit;
+use tally::Tally;
+
+const USAGE: &str = "usage: judge N SEED | --every-byte | --long | --input HEX | --c-checks | --list-faults, each with [--fault K]";
+
+/// From so many cases on, every format, code and class must have been reached.
+const ENOUGH: u64 = 100_000;
+
+fn fail(said: &str) -> ! {
+    eprintln!("oracle: {said}");
+    exit(2)
+}
+
+fn number(word: &str, what: &str) -> u64 {
+    word.parse().unwrap_or_else(|_| fail(&format!("{what} is not a number: '{word}'")))
+}
+
+fn hex(word: &str) -> Vec<u8> {
+    let digit = |c: u8| (c as char).to_digit(16).unwrap_or_else(|| fail("--input takes hex")) as u8;
+    if !word.len().is_multiple_of(2) {
+        fail("--input takes two hex digits for each byte");
+    }
+    word.as_bytes().chunks(2).map(|pair| digit(pair[0]) << 4 | digit(pair[1])).collect()
+}
+
+/// The fault's number, taken out of the arguments.
+fn fault_of(words: &mut Vec<String>) -> u32 {
+    let Some(at) = words.iter().position(|word| word == "--fault") else { return 0 };
+    if at + 1 >= words.len() {
+        fail(USAGE);
+    }
+    let fault = number(&words[at + 1], "the fault") as u32;
+    if fault as usize > fault::FAULTS.len() {
+        fail(&format!("there are {} faults", fault::FAULTS.len()));
+    }
+    words.drain(at..at + 2);
+    fault
+}
+
+fn main() {
+    let mut words: Vec<String> = std::env::args().skip(1).collect();
+    let fault = fault_of(&mut words);
+    let words: Vec<&str> = words.iter().map(String::as_str).collect();
+    let mut listed = Tally::default();
+    let tally = match words[..] {
+        ["--c-checks"] => return print!("{}", library::c_checks()),
+        ["--list-faults"] => return fault::FAULTS.iter().for_each(|what| println!("{what}")),
+        ["--every-byte"] => sweep::every_byte(fault),
+        ["--long"] => sweep::long(fault),
+        ["--input", bytes] => work::share(vec![hex(bytes)], fault),
+        [cases, seed] => {
+            let (cases, seed) = (number(cases, "N"), number(seed, "SEED"));
+            listed = listed::check(fault);
+            work::spread(cases, fault, |case| make::input(seed, case))
+        }
+        _ => fail(USAGE),
+    };
+    let must_reach = words.len() == 2 && tally.cases >= ENOUGH;
+    report(tally, listed, must_reach)
+}
+
+fn report(tally: Tally, listed: Tally, must_reach: bool) {
+    tally.print_reached();
+    println!("accepted: {} of {}, {} bytes on average", tally.accepted, tally.cases, tally.bytes / tally.cases.max(1));
+    let unreached = if must_reach { tally.unreached() } else { Vec::new() };
+    unreached.iter().for_each(|what| println!("never reached: {what}"));
+    listed.print_differences();
+    tally.print_differences();
+    let differ = tally.differ + listed.differ;
+    println!("{} compared, {differ} differ", tally.cases);
+    if differ > 0 || !unreached.is_empty() {
+        exit(1);
+    }
+}

@@ -1,0 +1,343 @@
+//! Document 01's reading, item by item, written from its text alone: what the crate cannot tell (positions, steps, starts, depth 9)
+//! comes from here, and whether an input lies in the domain of equality. Where the crate can tell, both are compared with it.
+
+use crate::shape::*;
+use crate::value::{sixteen, Value};
+
+#[derive(Clone, Copy, PartialEq, Debug)]
+pub struct Refusal {
+    pub code: u32,
+    pub at: usize,
+}
+
+type Read<T> = Result<T, Refusal>;
+
+/// A range of the input, read from its start.
+pub struct Cursor<'a> {
+    data: &'a [u8],
+    pub at: usize,
+    end: usize,
+    pub steps: usize,
+}
+
+impl<'a> Cursor<'a> {
+    pub fn new(data: &'a [u8], at: usize, end: usize) -> Self {
+        Cursor { data, at, end, steps: 0 }
+    }
+
+    fn refuse<T>(&self, code: u32, at: usize) -> Read<T> {
+        Err(Refusal { code, at })
+    }
+
+    /// The next bytes, as an item or a part of one that begins at `first`.
+    fn take(&mut self, count: usize, first: usize) -> Read<&'a [u8]> {
+        if self.end - self.at < count {
+            return self.refuse(2, first);
+        }
+        self.at += count;
+        Ok(&self.data[self.at - count..self.at])
+    }
+
+    fn block(&mut self, count: usize) -> Read<&'a [u8]> {
+        let bytes = self.take(count, self.at)?;
+        self.steps += 1;
+        Ok(bytes)
+    }
+
+    pub fn word(&mut self) -> Read<u32> {
+        Ok(u32::from_be_bytes(self.block(4)?.try_into().unwrap()))
+    }
+
+    /// A word that must satisfy a rule; otherwise it is no step.
+    fn word_that(&mut self, code: u32, holds: impl Fn(u32) -> bool) -> Read<u32> {
+        let first = self.at;
+        let word = self.word()?;
+        if !holds(word) {
+            self.steps -= 1;
+            return self.refuse(code, first);
+        }
+        Ok(word)
+    }
+
+    /// An opaque's start and length, and the cursor behind its pad.
+    pub fn opaque(&mut self) -> Read<(usize, usize)> {
+        let first = self.at;
+        let length = u32::from_be_bytes(self.take(4, first)?.try_into().unwrap()) as usize;
+        if length > MAX_OPAQUE {
+            return self.refuse(5, first);
+        }
+        self.take(length.div_ceil(4) * 4, first)?;
+        self.steps += 1;
+        Ok((first + 4, length))
+    }
+
+    fn text(&mut self) -> Read<(usize, usize)> {
+        let first = self.at;
+        let (start, length) = self.opaque()?;
+        if std::str::from_utf8(&self.data[start..start + length]).is_err() {
+            self.steps -= 1;
+            return self.refuse(7, first);
+        }
+        Ok((start, length))
+    }
+
+    fn address(&mut self) -> Read<Value> {
+        let kind = self.word_that(4, |kind| kind <= 2)?;
+        let bytes = match kind {
+            0 => &[],
+            1 => self.block(4)?,
+            _ => self.block(16)?,
+        };
+        Ok(Value::Address(kind, sixteen(bytes)))
+    }
+
+    fn list(&mut self) -> Read<(usize, usize)> {
+        let count = self.word()? as usize;
+        let start = self.at;
+        for _ in 0..count {
+            self.word()?;
+        }
+        Ok((start, count))
+    }
+
+    fn path(&mut self) -> Read<(usize, usize)> {
+        let count = self.word()? as usize;
+        let start = self.at;
+        for _ in 0..count {
+            self.word()?;
+            self.list()?;
+        }
+        Ok((start, count))
+    }
+
+    pub fn item(&mut self, shape: Shape) -> Read<Value> {
+        let span = |(start, count)| Value::Span(start, count);
+        Ok(match shape {
+            Shape::Version => Value::Word(self.word_that(3, |version| version == 5)?),
+            Shape::Protocol => Value::Word(self.word_that(6, |protocol| (1..=17).contains(&protocol))?),
+            Shape::Word => Value::Word(self.word()?),
+            Shape::Long => Value::Long(u64::from_be_bytes(self.block(8)?.try_into().unwrap())),
+            Shape::Six => Value::block(self.block(6)?),
+            Shape::SixOfEight => Value::block(&self.block(8)?[..6]),
+            Shape::Sixteen => Value::block(self.block(16)?),
+            Shape::Address => self.address()?,
+            Shape::Text => span(self.text()?),
+            Shape::Opaque => span(self.opaque()?),
+            Shape::List => span(self.list()?),
+            Shape::Path => span(self.path()?),
+        })
+    }
+}
+
+/// What was being read when a refusal came.
+#[derive(Clone, Copy, PartialEq, Eq, PartialOrd, Ord, Debug)]
+pub enum Place {
+    Header,
+    SampleFrame,
+    Sample(u32),
+    RecordFrame(u32),
+    Flow(u32),
+    PduCount,
+}
+
+/// A record that the crate opens and document 01 keeps raw.
+#[derive(Clone, Copy)]
+pub struct Opened {
+    pub kind: u32,
+    pub format: u32,
+    /// Where its format word is.
+    pub at: usize,
+}
+
+/// What document 01 says to an input.
+pub struct Reading {
+    pub code: u32,
+    pub at: usize,
+    pub steps: usize,
+    pub store: Vec<[u32; 6]>,
+    pub header: Vec<Value>,
+    pub place: Place,
+    pub opened: Vec<Opened>,
+}
+
+struct Reader<'a> {
+    cursor: Cursor<'a>,
+    store: Vec<[u32; 6]>,
+    header: Vec<Value>,
+    place: Place,
+    opened: Vec<Opened>,
+}
+
+impl<'a> Reader<'a> {
+    fn new(data: &'a [u8]) -> Self {
+        let cursor = Cursor::new(data, 0, data.len());
+        Reader { cursor, store: Vec::new(), header: Vec::new(), place: Place::Header, opened: Vec::new() }
+    }
+
+    fn describe(&mut self, kind: u32, format: u32, start: usize, length: usize, parent: u32, depth: u32) -> u32 {
+        self.store.push([kind, format, start as u32, length as u32, parent, depth]);
+        self.store.len() as u32 - 1
+    }
+
+    fn datagram(&mut self) -> Read<()> {
+        let start = self.cursor.at;
+        let own = self.describe(DATAGRAM, 0, start, 0, NOBODY, 0);
+        self.place = Place::Header;
+        self.header.clear();
+        for shape in LAYOUTS[0].shapes {
+            let value = self.cursor.item(*shape)?;
+            self.header.push(value);
+        }
+        for _ in 0..last_word(&self.header) {
+            self.sample(own)?;
+        }
+        self.store[own as usize][3] = (self.cursor.at - start) as u32;
+        Ok(())
+    }
+
+    fn sample(&mut self, parent: u32) -> Read<()> {
+        self.place = Place::SampleFrame;
+        let format = self.cursor.word()?;
+        let (start, length) = self.cursor.opaque()?;
+        let own = self.describe(SAMPLE, format, start, length, parent, 0);
+        self.inside(start, length, |reader| reader.sample_fields(format, own))
+    }
+
+    /// Reads in a payload, and goes on behind it whatever was left there.
+    fn inside(&mut self, start: usize, length: usize, read: impl Fn(&mut Self) -> Read<()>) -> Read<()> {
+        let (behind, end) = (self.cursor.at, self.cursor.end);
+        (self.cursor.at, self.cursor.end) = (start, start + length);
+        read(self)?;
+        (self.cursor.at, self.cursor.end) = (behind, end);
+        Ok(())
+    }
+
+    fn sample_fields(&mut self, format: u32, own: u32) -> Read<()> {
+        let Some(layout) = layout_of(SAMPLE, format) else { return Ok(()) };
+        self.place = Place::Sample(format);
+        let kind = if matches!(format, 2 | 4) { COUNTER } else { FLOW };
+        let mut count = 0;
+        for shape in layout.shapes {
+            count = last_word(&[self.cursor.item(*shape)?]);
+        }
+        for _ in 0..count {
+            self.record(kind, own, 1)?;
+        }
+        Ok(())
+    }
+
+    fn record(&mut self, kind: u32, parent: u32, depth: u32) -> Read<()> {
+        self.place = Place::RecordFrame(kind);
+        let at = self.cursor.at;
+        if depth > MAX_DEPTH {
+            return Err(Refusal { code: 8, at });
+        }
+        let format = self.cursor.word()?;
+        let (start, length) = self.cursor.opaque()?;
+        let own = self.describe(kind, format, start, length, parent, depth);
+        if only_the_crate_opens(kind, format) {
+            self.opened.push(Opened { kind, format, at });
+        }
+        self.inside(start, length, |reader| reader.record_fields(kind, format, own, depth))
+    }
+
+    fn record_fields(&mut self, kind: u32, format: u32, own: u32, depth: u32) -> Read<()> {
+        let Some(layout) = layout_of(kind, format) else { return Ok(()) };
+        self.place = Place::Flow(format);
+        let mut last = Value::Word(0);
+        for shape in layout.shapes {
+            last = self.cursor.item(*shape)?;
+        }
+        if format == AGGREGATION {
+            for _ in 0..last_word(&[last]) {
+                self.pdu(own, depth)?;
+            }
+        }
+        Ok(())
+    }
+
+    fn pdu(&mut self, parent: u32, depth: u32) -> Read<()> {
+        self.place = Place::PduCount;
+        let count = self.cursor.word()?;
+        let start = self.cursor.at;
+        let own = self.describe(PDU, 0, start, 0, parent, depth);
+        for _ in 0..count {
+            self.record(FLOW, own, depth + 1)?;
+        }
+        self.store[own as usize][3] = (self.cursor.at - start) as u32;
+        Ok(())
+    }
+
+    fn answer(self, code: u32, at: usize) -> Reading {
+        let accepted = code == 0;
+        let store = if accepted { self.store } else { Vec::new() };
+        let header = if accepted { self.header } else { Vec::new() };
+        Reading { code, at, steps: self.cursor.steps, store, header, place: self.place, opened: self.opened }
+    }
+}
+
+fn last_word(values: &[Value]) -> u32 {
+    match values.last() {
+        Some(Value::Word(word)) => *word,
+        _ => 0,
+    }
+}
+
+/// One datagram.
+pub fn decode(data: &[u8]) -> Reading {
+    let mut reader = Reader::new(data);
+    if data.len() > MAX_INPUT {
+        return reader.answer(1, 0);
+    }
+    match reader.datagram() {
+        Ok(()) => {
+            let end = reader.cursor.at;
+            reader.answer(0, end)
+        }
+        Err(refusal) => reader.answer(refusal.code, refusal.at),
+    }
+}
+
+/// Datagrams end to end: code 2 ends the run, any other refuses it.
+pub fn decode_run(data: &[u8]) -> Reading {
+    let mut reader = Reader::new(data);
+    if data.len() > MAX_INPUT {
+        return reader.answer(1, 0);
+    }
+    while reader.cursor.at < data.len() {
+        let (begun, kept) = (reader.cursor.at, reader.store.len());
+        match reader.datagram() {
+            Ok(()) => {}
+            Err(refusal) if refusal.code == 2 => {
+                reader.store.truncate(kept);
+                return reader.answer(0, begun);
+            }
+            Err(refusal) => return reader.answer(refusal.code, refusal.at),
+        }
+    }
+    reader.answer(0, data.len())
+}
+
+/// What a field reading of this layout answers for a descriptor: code, position and steps, and the values, none on a refusal.
+pub fn fields(data: &[u8], descriptor: &[u32; 6], layout: &Layout) -> ((u32, usize, usize), Vec<Value>) {
+    let [kind, format, start, length, _, _] = *descriptor;
+    let end = start as usize + length as usize;
+    if data.len() > MAX_INPUT {
+        return ((1, 0, 0), Vec::new());
+    }
+    if end > data.len() {
+        return ((10, 0, 0), Vec::new());
+    }
+    if (kind, format) != (layout.kind, layout.format) {
+        return ((11, 0, 0), Vec::new());
+    }
+    let mut cursor = Cursor::new(data, start as usize, end);
+    let mut values = Vec::with_capacity(layout.shapes.len());
+    for shape in layout.shapes {
+        match cursor.item(*shape) {
+            Ok(value) => values.push(value),
+            Err(refusal) => return ((refusal.code, refusal.at, cursor.steps), Vec::new()),
+        }
+    }
+    ((0, cursor.at, cursor.steps), values)
+}

@@ -1,0 +1,236 @@
+//! The crate's own structure, walked in reading order: what each descriptor and each field must be.
+
+use crate::shape::*;
+use sflow_parser::models::core::{Address, CounterData, CounterRecord, DropReason, FlowData, FlowRecord, SFlowDatagram};
+use sflow_parser::models::core::{SampleData, SampleRecord};
+use sflow_parser::models::record_flows::{AsPathSegment, HeaderProtocol, UrlDirection};
+use sflow_parser::parsers::ParseError;
+
+/// A field as the crate holds it.
+pub enum Held<'a> {
+    Word(u32),
+    Long(u64),
+    Six([u8; 6]),
+    Sixteen([u8; 16]),
+    Protocol(HeaderProtocol),
+    Reason(DropReason),
+    Direction(UrlDirection),
+    Address(&'a Address),
+    Bytes(&'a [u8]),
+    Words(&'a [u32]),
+    Path(&'a [AsPathSegment]),
+}
+
+/// What a descriptor stands for.
+pub struct Node<'a> {
+    pub kind: u32,
+    pub format: u32,
+    pub parent: u32,
+    pub depth: u32,
+    /// The payload, of what the crate keeps raw.
+    pub raw: Option<&'a [u8]>,
+    pub held: Vec<Held<'a>>,
+    /// The crate opened it and document 01 does not.
+    pub opened: bool,
+}
+
+/// Document 01's code for a refusal of the crate.
+pub fn code_of(error: &ParseError) -> u32 {
+    const TEXTS: [(&str, u32); 5] = [
+        ("Invalid version", 3),
+        ("Invalid address type", 4),
+        ("Opaque data length", 5),
+        ("Unknown header protocol", 6),
+        ("Invalid UTF-8 string", 7),
+    ];
+    match error {
+        ParseError::Io(e) if e.kind() == std::io::ErrorKind::UnexpectedEof => 2,
+        ParseError::Io(_) => u32::MAX,
+        ParseError::InvalidData(text) => TEXTS.iter().find(|(begin, _)| text.starts_with(begin)).map_or(u32::MAX, |known| known.1),
+    }
+}
+
+/// The nodes of datagrams end to end.
+pub fn nodes(datagrams: &[SFlowDatagram]) -> Vec<Node<'_>> {
+    let mut all = Vec::new();
+    for datagram in datagrams {
+        add_datagram(datagram, &mut all);
+    }
+    all
+}
+
+fn add<'a>(all: &mut Vec<Node<'a>>, kind: u32, format: u32, parent: u32, depth: u32) -> u32 {
+    all.push(Node { kind, format, parent, depth, raw: None, held: Vec::new(), opened: false });
+    all.len() as u32 - 1
+}
+
+fn add_datagram<'a>(datagram: &'a SFlowDatagram, all: &mut Vec<Node<'a>>) {
+    let own = add(all, DATAGRAM, 0, NOBODY, 0);
+    all[own as usize].held = vec![
+        Held::Word(datagram.version as u32),
+        Held::Address(&datagram.agent_address),
+        Held::Word(datagram.sub_agent_id),
+        Held::Word(datagram.sequence_number),
+        Held::Word(datagram.uptime),
+        Held::Word(datagram.samples.len() as u32),
+    ];
+    for sample in &datagram.samples {
+        add_sample(sample, own, all);
+    }
+}
+
+fn add_sample<'a>(sample: &'a SampleRecord, parent: u32, all: &mut Vec<Node<'a>>) {
+    let own = add(all, SAMPLE, sample.sample_type.0, parent, 0);
+    let node = &mut all[own as usize];
+    let (flows, counters): (&[FlowRecord], &[CounterRecord]) = match &sample.sample_data {
+        SampleData::FlowSample(s) => (&s.flow_records, &[]),
+        SampleData::FlowSampleExpanded(s) => (&s.flow_records, &[]),
+        SampleData::DiscardedPacket(s) => (&s.flow_records, &[]),
+        SampleData::CountersSample(s) => (&[], &s.counters),
+        SampleData::CountersSampleExpanded(s) => (&[], &s.counters),
+        SampleData::RtMetric { data, .. } | SampleData::RtFlow { data, .. } | SampleData::Unknown { data, .. } => {
+            node.raw = Some(data);
+            (&[], &[])
+        }
+    };
+    if node.raw.is_none() {
+        node.held = sample_fields(&sample.sample_data);
+        node.held.push(Held::Word((flows.len() + counters.len()) as u32));
+    }
+    for record in flows {
+        add_flow(record, own, 1, all);
+    }
+    for record in counters {
+        add_counter(record, own, all);
+    }
+}
+
+/// The fields before the count of records.
+fn sample_fields(data: &SampleData) -> Vec<Held<'_>> {
+    let words: Vec<u32> = match data {
+        SampleData::FlowSample(s) => {
+            vec![s.sequence_number, s.source_id.0, s.sampling_rate, s.sample_pool, s.drops, s.input.0, s.output.0]
+        }
+        SampleData::CountersSample(s) => vec![s.sequence_number, s.source_id.0],
+        SampleData::FlowSampleExpanded(s) => {
+            let (of, i, o) = (&s.source_id, &s.input, &s.output);
+            let head = [s.sequence_number, of.source_id_type, of.source_id_index, s.sampling_rate, s.sample_pool, s.drops];
+            [&head[..], &[i.format, i.value, o.format, o.value]].concat()
+        }
+        SampleData::CountersSampleExpanded(s) => vec![s.sequence_number, s.source_id.source_id_type, s.source_id.source_id_index],
+        SampleData::DiscardedPacket(s) => {
+            let of = &s.source_id;
+            vec![s.sequence_number, of.source_id_type, of.source_id_index, s.drops, s.input_ifindex, s.output_ifindex]
+        }
+        _ => Vec::new(),
+    };
+    let mut held: Vec<Held> = words.into_iter().map(Held::Word).collect();
+    if let SampleData::DiscardedPacket(s) = data {
+        held.push(Held::Reason(s.reason));
+    }
+    held
+}
+
+fn add_counter<'a>(record: &'a CounterRecord, parent: u32, all: &mut Vec<Node<'a>>) {
+    let own = add(all, COUNTER, record.counter_format.0, parent, 1);
+    match &record.counter_data {
+        CounterData::Unknown { data, .. } => all[own as usize].raw = Some(data),
+        _ => all[own as usize].opened = true,
+    }
+}
+
+fn add_flow<'a>(record: &'a FlowRecord, parent: u32, depth: u32, all: &mut Vec<Node<'a>>) {
+    let own = add(all, FLOW, record.flow_format.0, parent, depth);
+    let node = &mut all[own as usize];
+    match &record.flow_data {
+        FlowData::Unknown { data, .. } => node.raw = Some(data),
+        FlowData::Extended80211Aggregation(a) => {
+            node.held.push(Held::Word(a.pdus.len() as u32));
+            for pdu in &a.pdus {
+                let inner = add(all, PDU, 0, own, depth);
+                for record in &pdu.flow_records {
+                    add_flow(record, inner, depth + 1, all);
+                }
+            }
+        }
+        data => match sampled_fields(data).or_else(|| extended_fields(data)).or_else(|| wireless_fields(data)) {
+            Some(held) => node.held = held,
+            None => node.opened = true,
+        },
+    }
+}
+
+fn words<'a>(of: &[u32]) -> Vec<Held<'a>> {
+    of.iter().map(|word| Held::Word(*word)).collect()
+}
+
+/// Formats 1 to 4.
+fn sampled_fields(data: &FlowData) -> Option<Vec<Held<'_>>> {
+    use Held::*;
+    Some(match data {
+        FlowData::SampledHeader(r) => {
+            vec![Protocol(r.protocol), Word(r.frame_length), Word(r.stripped), Bytes(&r.header)]
+        }
+        FlowData::SampledEthernet(r) => vec![Word(r.length), Six(r.src_mac.0), Six(r.dst_mac.0), Word(r.eth_type)],
+        FlowData::SampledIpv4(r) => {
+            let (source, destination) = (u32::from(r.src_ip), u32::from(r.dst_ip));
+            words(&[r.length, r.protocol, source, destination, r.src_port, r.dst_port, r.tcp_flags, r.tos])
+        }
+        FlowData::SampledIpv6(r) => {
+            let mut held = words(&[r.length, r.protocol]);
+            held.extend([Sixteen(r.src_ip.octets()), Sixteen(r.dst_ip.octets())]);
+            held.extend(words(&[r.src_port, r.dst_port, r.tcp_flags, r.priority]));
+            held
+        }
+        _ => return None,
+    })
+}
+
+/// Formats 1001 to 1012.
+fn extended_fields(data: &FlowData) -> Option<Vec<Held<'_>>> {
+    use Held::*;
+    Some(match data {
+        FlowData::ExtendedSwitch(r) => words(&[r.src_vlan, r.src_priority, r.dst_vlan, r.dst_priority]),
+        FlowData::ExtendedRouter(r) => vec![Address(&r.next_hop), Word(r.src_mask_len), Word(r.dst_mask_len)],
+        FlowData::ExtendedGateway(r) => {
+            let mut held = vec![Address(&r.next_hop), Word(r.as_number), Word(r.src_as), Word(r.src_peer_as)];
+            held.extend([Path(&r.dst_as_path), Words(&r.communities), Word(r.local_pref)]);
+            held
+        }
+        FlowData::ExtendedUser(r) => {
+            let (source, destination) = (r.src_user.as_bytes(), r.dst_user.as_bytes());
+            vec![Word(r.src_charset), Bytes(source), Word(r.dst_charset), Bytes(destination)]
+        }
+        FlowData::ExtendedUrl(r) => vec![Direction(r.direction), Bytes(r.url.as_bytes()), Bytes(r.host.as_bytes())],
+        FlowData::ExtendedMpls(r) => vec![Address(&r.next_hop), Words(&r.in_stack), Words(&r.out_stack)],
+        FlowData::ExtendedNat(r) => vec![Address(&r.src_address), Address(&r.dst_address)],
+        FlowData::ExtendedMplsTunnel(r) => vec![Bytes(r.tunnel_lsp_name.as_bytes()), Word(r.tunnel_id), Word(r.tunnel_cos)],
+        FlowData::ExtendedMplsVc(r) => {
+            vec![Bytes(r.vc_instance_name.as_bytes()), Word(r.vll_vc_id), Word(r.vc_label), Word(r.vc_cos)]
+        }
+        FlowData::ExtendedMplsFec(r) => vec![Address(&r.fec_addr_prefix), Word(r.fec_prefix_len)],
+        FlowData::ExtendedMplsLvpFec(r) => vec![Word(r.mpls_fec_addr_prefix_length)],
+        FlowData::ExtendedVlanTunnel(r) => vec![Words(&r.stack)],
+        _ => return None,
+    })
+}
+
+/// Formats 1013 to 1015.
+fn wireless_fields(data: &FlowData) -> Option<Vec<Held<'_>>> {
+    use Held::*;
+    Some(match data {
+        FlowData::Extended80211Payload(r) => vec![Word(r.cipher_suite), Bytes(&r.data)],
+        FlowData::Extended80211Rx(r) => {
+            let mut held = vec![Bytes(r.ssid.as_bytes()), Six(r.bssid.0), Word(r.version), Word(r.channel), Long(r.speed)];
+            held.extend(words(&[r.rsni, r.rcpi, r.packet_duration]));
+            held
+        }
+        FlowData::Extended80211Tx(r) => {
+            let mut held = vec![Bytes(r.ssid.as_bytes()), Six(r.bssid.0)];
+            held.extend(words(&[r.version, r.transmissions, r.packet_duration, r.retrans_duration, r.channel]));
+            held.extend([Long(r.speed), Word(r.power)]);
+            held
+        }
+        _ => return None,
+    })
+}
