@@ -55,10 +55,10 @@ def cargo(source, made, library):
     return os.path.join(made, "release", "judge")
 
 
-def check_declarations(judge):
+def check_declarations(judge, include=os.path.join(ROOT, "include")):
     """Rust's declarations of the library are the header's."""
     checks = output([judge, "--c-checks"], "judge --c-checks")
-    words = ["cc", "-std=c11", "-Wall", "-Wextra", "-Werror", "-fsyntax-only", "-I", os.path.join(ROOT, "include"), "-x", "c", "-"]
+    words = ["cc", "-std=c11", "-Wall", "-Wextra", "-Werror", "-fsyntax-only", "-I", include, "-x", "c", "-"]
     output(words, "oracle/judge/src/library.rs against include/latchplume.h", input=checks.encode())
 
 

@@ -261,18 +261,16 @@ impl Judge {
         let [kind, format, _, _, parent, depth] = *descriptor;
         let place = (node.kind, node.format, node.parent, node.depth);
         same("the crate: kind, format, parent, depth", &(kind, format, parent, depth), &place)?;
-        same("the crate: which records it opens", &only_the_crate_opens(kind, format), &node.opened)?;
+        same("the crate: what only it opens", &only_the_crate_opens(kind, format), &node.opened)?;
+        same("the crate: what is opened", &layout_of(kind, format).is_some(), &!node.held.is_empty())?;
         if let Some(raw) = node.raw {
             let payload = self.library.payload(data, descriptor);
             same("the crate: payload", &data.get(payload.start..payload.start + payload.count), &Some(raw))?;
         }
-        if node.held.is_empty() {
-            return Ok(());
-        }
-        let name = format!("the crate: field of {kind}/{format}");
         let Some(row) = LAYOUTS.iter().position(|row| (row.kind, row.format) == (kind, format)) else {
-            return same(&name, &"none", &"opened");
+            return Ok(());
         };
+        let name = format!("the crate: field of {kind}/{format}");
         let (_, values) = self.library.read(row, data, descriptor);
         same(&format!("{name}: how many"), &values.len(), &node.held.len())?;
         for (index, (value, held)) in values.iter().zip(&node.held).enumerate() {
@@ -288,9 +286,11 @@ impl Judge {
         match (value, held) {
             (Value::Word(word), Held::Word(own)) => word == *own,
             (Value::Word(word), Held::Protocol(own)) => word == *own as u32,
-            // The crate's catch-all case matches every number that its table lacks.
-            (Value::Word(word), Held::Reason(own)) => DropReason::from_u32(word).unwrap_or(DropReason::Unknown) == *own,
-            (Value::Word(word), Held::Direction(own)) => UrlDirection::from(word) == *own,
+            (Value::Word(word), Held::Reason(own)) => {
+                let listed = matches!(word, 0..=15 | 256..=303);
+                is_named(word, listed, *own as u32, DropReason::Unknown as u32)
+            }
+            (Value::Word(word), Held::Direction(own)) => is_named(word, matches!(word, 1 | 2), *own as u32, UrlDirection::Source as u32),
             (Value::Long(long), Held::Long(own)) => long == *own,
             (Value::Block(bytes, 6), Held::Six(own)) => bytes[..6] == *own,
             (Value::Block(bytes, 16), Held::Sixteen(own)) => bytes == *own,
@@ -319,7 +319,8 @@ impl Judge {
         for segment in own {
             let got = self.library.next_segment(data, at);
             let steps = 2 + segment.path.len();
-            if got.outcome.code != 0 || got.outcome.steps != steps || AsPathType::from(got.kind) != segment.path_type {
+            let named = is_named(got.kind, matches!(got.kind, 1 | 2), segment.path_type as u32, AsPathType::AsSet as u32);
+            if got.outcome.code != 0 || got.outcome.steps != steps || !named {
                 return false;
             }
             if got.path.count != segment.path_length as usize || !self.is_list(data, got.path.start, got.path.count, &segment.path) {
@@ -330,6 +331,11 @@ impl Judge {
         let behind = self.library.next_segment(data, data.len() + 1);
         count == own.len() && behind.outcome.code == 10
     }
+}
+
+/// Whether a number is the one that the crate holds by name; its catch-all case matches every number that its table lacks.
+fn is_named(word: u32, listed: bool, own: u32, catch_all: u32) -> bool {
+    own == if listed { word } else { catch_all }
 }
 
 /// The header of an answer: document 01's, or all zero. The version is not among its fields.

@@ -20,7 +20,8 @@ mod work;
 use std::process::exit;
 use tally::Tally;
 
-const USAGE: &str = "usage: judge N SEED | --every-byte | --long | --input HEX | --c-checks | --list-faults, each with [--fault K]";
+const USAGE: &str =
+    "usage: judge N SEED | --every-byte | --strings | --long | --input HEX | --c-checks | --list-faults, each with [--fault K]";
 
 /// From so many cases on, every format, code and class must have been reached.
 const ENOUGH: u64 = 100_000;
@@ -65,6 +66,7 @@ fn main() {
         ["--c-checks"] => return print!("{}", library::c_checks()),
         ["--list-faults"] => return fault::FAULTS.iter().for_each(|what| println!("{what}")),
         ["--every-byte"] => sweep::every_byte(fault),
+        ["--strings"] => sweep::strings(fault),
         ["--long"] => sweep::long(fault),
         ["--input", bytes] => work::share(vec![hex(bytes)], fault),
         [cases, seed] => {

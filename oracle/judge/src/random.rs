@@ -42,7 +42,7 @@ impl Random {
     pub fn word(&mut self) -> u32 {
         const EDGES: [u32; 10] = [0, 1, 5, 255, 256, 0x7fff_ffff, 0x8000_0000, 0xffff_fffe, 0xffff_ffff, 0x0102_0304];
         match self.below(4) {
-            0 => self.below(300) as u32,
+            0 => self.below(320) as u32,
             1 => self.pick(&EDGES),
             _ => (self.next() >> 32) as u32,
         }

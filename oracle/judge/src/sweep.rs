@@ -44,66 +44,98 @@ pub fn every_byte(fault: u32) -> Tally {
     })
 }
 
+/// Bytes at the edges of what UTF-8 allows in each place of a character.
+const EDGES: [u8; 26] = [
+    0x00, 0x41, 0x7f, 0x80, 0x8f, 0x90, 0x9f, 0xa0, 0xbf, 0xc0, 0xc1, 0xc2, 0xdf, 0xe0, 0xe1, 0xec, 0xed, 0xee, 0xef, 0xf0, 0xf1, 0xf3,
+    0xf4, 0xf5, 0xf8, 0xff,
+];
+
+/// Every string of one to four of these bytes, behind none to eleven letters.
+pub fn strings(fault: u32) -> Tally {
+    let base = EDGES.len() as u64;
+    let total = base + base.pow(2) + base.pow(3) + base.pow(4);
+    work::spread(total, fault, |case| {
+        let mut text = vec![b'a'; case as usize % 12];
+        let mut rest = case;
+        loop {
+            text.push(EDGES[(rest % base) as usize]);
+            if rest < base {
+                break;
+            }
+            rest = rest / base - 1;
+        }
+        let length = text.len() as u32;
+        text.resize(text.len().next_multiple_of(4), 0xff);
+        text.extend_from_slice(&[0; 8]);
+        let record = 4 + text.len() as u32;
+        let head = words(&[5, 0, 0, 1, 0, 1, 1, 40 + record, 0, 0, 0, 0, 0, 0, 0, 1, 1008, record, length]);
+        [head, text].concat()
+    })
+}
+
 fn words(of: &[u32]) -> Vec<u8> {
     of.iter().flat_map(|word| word.to_be_bytes()).collect()
 }
 
-/// An input of at most `length` bytes, that much of it as multiples of four allow, filled by `unit`s behind `head`. The words of `head`
-/// that are MAX become the number of bytes behind them, and those that are MAX - 1 the number of units.
-fn filled(head: &[u32], unit: &[u8], length: usize) -> Vec<u8> {
-    let whole = length / 4 * 4;
-    let units = (whole - head.len() * 4) / unit.len();
-    let end = head.len() * 4 + units * unit.len();
+/// Words of a head that stand for what follows: the bytes behind the word, the bytes of the units, how many units.
+const BEHIND: u32 = u32::MAX;
+const BYTES: u32 = u32::MAX - 1;
+const UNITS: u32 = u32::MAX - 2;
+
+/// An input of at most `length` bytes: `head`, as many of the `unit` as there is room for, and `tail`.
+fn filled(head: &[u32], unit: &[u8], tail: &[u32], length: usize) -> Vec<u8> {
+    let around = (head.len() + tail.len()) * 4;
+    let units = (length - around) / unit.len();
+    let end = around + units * unit.len();
     let mut bytes = Vec::with_capacity(length + 8);
     for (place, word) in head.iter().enumerate() {
-        let behind = end - (place + 1) * 4;
         let word = match *word {
-            u32::MAX => behind as u32,
-            0xffff_fffe => units as u32,
+            BEHIND => (end - (place + 1) * 4) as u32,
+            BYTES => (units * unit.len()) as u32,
+            UNITS => units as u32,
             word => word,
         };
         bytes.extend_from_slice(&word.to_be_bytes());
     }
     (0..units).for_each(|_| bytes.extend_from_slice(unit));
+    bytes.extend(words(tail));
     bytes
 }
 
 /// Long inputs, each of its own shape.
 fn long_inputs(length: usize) -> Vec<(&'static str, Vec<u8>)> {
-    const ALL: u32 = u32::MAX;
-    const EACH: u32 = u32::MAX - 1;
-    let flow = |format: u32, fields: &[u32]| [&[5, 0, 0, 1, 0, 1, 1, ALL, 0, 0, 0, 0, 0, 0, 0, 1, format, ALL][..], fields].concat();
-    let empty_record = words(&[5, 0]);
+    const HEAD: [u32; 6] = [5, 0, 0, 1, 0, 1];
+    let sample = |fields: &[u32]| [&HEAD[..], fields].concat();
+    let flow = |format: u32, fields: &[u32]| [&HEAD[..], &[1, BEHIND, 0, 0, 0, 0, 0, 0, 0, 1, format, BEHIND], fields].concat();
+    let (raw, character) = (words(&[4097, 0]), "\u{10ffff}".as_bytes());
     let two_datagrams = words(&[5, 0, 0, 1, 0, 0, 5, 0, 0, 1, 0, 0]);
     vec![
-        ("an empty datagram, and zeros", filled(&[5, 0, 0, 1, 0, 0], &[0; 4], length)),
-        ("a raw sample", filled(&[5, 0, 0, 1, 0, 1, 4097, ALL], b"\x01\x02\x03\x04", length)),
-        ("many raw samples", filled(&[5, 0, 0, 1, 0, EACH], &empty_record, length)),
-        ("many raw records", filled(&[5, 0, 0, 1, 0, 1, 1, ALL, 0, 0, 0, 0, 0, 0, 0, EACH], &empty_record, length)),
-        ("many counter records", filled(&[5, 0, 0, 1, 0, 1, 2, ALL, 0, 0, EACH], &words(&[4097, 0]), length)),
-        ("a sampled header", filled(&flow(1, &[1, 0, 0, ALL]), b"\xff\xfe\x00\x01", length)),
-        ("a string of ASCII", filled(&flow(1008, &[ALL]), b"abcd", length - 12)),
-        ("a string of four-byte characters", filled(&flow(1008, &[ALL]), "\u{10ffff}".as_bytes(), length)),
-        ("a list", filled(&flow(1012, &[EACH]), &words(&[7]), length)),
-        ("an AS path", filled(&flow(1003, &[0, 1, 2, 3, EACH]), &words(&[2, 0]), length)),
-        ("PDUs", filled(&flow(AGGREGATION, &[EACH]), &words(&[0]), length)),
-        ("a run of datagrams", filled(&[], &two_datagrams, length)),
+        ("an empty datagram, and zeros", filled(&[5, 0, 0, 1, 0, 0], &[0; 4], &[], length)),
+        ("a raw sample", filled(&sample(&[4097, BEHIND]), b"\x01\x02\x03\x04", &[], length)),
+        ("many raw samples", filled(&[5, 0, 0, 1, 0, UNITS], &raw, &[], length)),
+        ("many raw records", filled(&sample(&[1, BEHIND, 0, 0, 0, 0, 0, 0, 0, UNITS]), &raw, &[], length)),
+        ("many counter records", filled(&sample(&[2, BEHIND, 0, 0, UNITS]), &raw, &[], length)),
+        ("a sampled header", filled(&flow(1, &[1, 0, 0, BYTES]), b"\xff\xfe\x00\x01", &[], length)),
+        ("a string of ASCII", filled(&flow(1008, &[BYTES]), b"abcd", &[7, 8], length)),
+        ("a string of four-byte characters", filled(&flow(1005, &[1, 0, BYTES]), character, &[], length)),
+        ("a string with its last byte wrong", filled(&flow(1008, &[BYTES]), b"abc\xff", &[7, 8], length)),
+        ("a list", filled(&flow(1012, &[UNITS]), &words(&[7]), &[], length)),
+        ("an AS path", filled(&flow(1003, &[0, 1, 2, 3, UNITS]), &words(&[2, 0]), &[1, 8, 9], length)),
+        ("PDUs", filled(&flow(AGGREGATION, &[UNITS]), &words(&[0]), &[], length)),
+        ("a run of datagrams", filled(&[], &two_datagrams, &[], length)),
     ]
 }
 
-/// Inputs of 16,777,215, 16,777,216 and 16,777,217 bytes, filled up with zeros; and such as lack their last byte.
+/// Inputs of 16,777,215, 16,777,216 and 16,777,217 bytes, filled up with zeros; and such as lack their last bytes.
 pub fn long(fault: u32) -> Tally {
     let mut judge = Judge::new(fault);
     for length in [MAX_INPUT - 1, MAX_INPUT, MAX_INPUT + 1] {
-        for (name, mut input) in long_inputs(length) {
-            input.resize(length, 0);
-            eprintln!("{length} bytes: {name}");
-            judge.case(&input);
-        }
-        for (name, mut input) in long_inputs(length + 4) {
-            input.truncate(length);
-            eprintln!("{length} bytes of more: {name}");
-            judge.case(&input);
+        for made in [length, length + 4] {
+            for (name, mut input) in long_inputs(made) {
+                eprintln!("{length} bytes, made for {made}: {name}");
+                input.resize(length, 0);
+                judge.case(&input);
+            }
         }
     }
     judge.tally
