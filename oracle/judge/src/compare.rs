@@ -333,6 +333,17 @@ impl Judge {
     }
 }
 
+/// What each of the three answers to an input, for people.
+pub fn show(data: &[u8], fault: u32) {
+    let library = Library { fault };
+    let mut store = lent(data.len() / 4 * 6);
+    let (one, run) = (library.decode(data, &mut store).answer, library.decode_run(data, &mut store));
+    println!("library: {one:?}, as a run {run:?}");
+    let answer = |of: Reading| format!("code {} at {}, steps {}, descriptors {}", of.code, of.at, of.steps, of.store.len());
+    println!("document 01: {}; as a run {}", answer(paper::decode(data)), answer(paper::decode_run(data)));
+    println!("crate: {:?}; as a run {:?}", parse_datagram(data), parse_datagrams(data).map(|all| all.len()));
+}
+
 /// Whether a number is the one that the crate holds by name; its catch-all case matches every number that its table lacks.
 fn is_named(word: u32, listed: bool, own: u32, catch_all: u32) -> bool {
     own == if listed { word } else { catch_all }

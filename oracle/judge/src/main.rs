@@ -68,7 +68,11 @@ fn main() {
         ["--every-byte"] => sweep::every_byte(fault),
         ["--strings"] => sweep::strings(fault),
         ["--long"] => sweep::long(fault),
-        ["--input", bytes] => work::share(vec![hex(bytes)], fault),
+        ["--input", bytes] => {
+            let input = hex(bytes);
+            compare::show(&input, fault);
+            work::spread(1, fault, |_| input.clone())
+        }
         [cases, seed] => {
             let (cases, seed) = (number(cases, "N"), number(seed, "SEED"));
             listed = listed::check(fault);

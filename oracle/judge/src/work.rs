@@ -38,11 +38,6 @@ pub fn spread(cases: u64, fault: u32, input: impl Fn(u64) -> Vec<u8> + Sync) -> 
     })
 }
 
-/// Compares each of these inputs.
-pub fn share(inputs: Vec<Vec<u8>>, fault: u32) -> Tally {
-    spread(inputs.len() as u64, fault, |case| inputs[case as usize].clone())
-}
-
 /// A line on a terminal that is written over; elsewhere one every ten seconds.
 fn show_progress(cases: u64, done: &AtomicU64) {
     let (begun, terminal) = (Instant::now(), std::io::stderr().is_terminal());
