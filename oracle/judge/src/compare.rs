@@ -205,9 +205,13 @@ impl Judge {
     fn against(&mut self, data: &[u8], reading: &Reading, crates: &Theirs, run: bool) -> Checked {
         let code = crates.as_ref().map_or_else(|code| *code, |_| 0);
         same("the crate's refusal has no code in document 01", &(code == u32::MAX), &false)?;
-        if matches!(reading.code, 1 | 8) {
-            self.tally.reach(if reading.code == 1 { Key::Long(code) } else { Key::Deep(code) });
+        if reading.code == 1 {
+            self.tally.reach(Key::Long(code));
             return Ok(());
+        }
+        if reading.code == 8 {
+            self.tally.reach(Key::Deep(code));
+            return self.made_shallow(data, reading, run);
         }
         if reading.opened.is_empty() {
             return self.equal(data, crates, run);
@@ -238,6 +242,17 @@ impl Judge {
         let shape = |of: &Reading| of.store.iter().map(|d| [d[0], d[2], d[3], d[4], d[5]]).collect::<Vec<_>>();
         same("brought inside: descriptors", &shape(&again), &shape(reading))?;
         self.judge(&inside, &again, run);
+        Ok(())
+    }
+
+    /// Gives the record in which one would begin at depth 9 a format word that nobody opens. No fault may come before that place, and
+    /// the crate judges what is left.
+    fn made_shallow(&mut self, data: &[u8], reading: &Reading, run: bool) -> Checked {
+        let mut shallow = data.to_vec();
+        shallow[reading.at_limit..reading.at_limit + 4].copy_from_slice(&KEPT_RAW.to_be_bytes());
+        let again = if run { paper::decode_run(&shallow) } else { paper::decode(&shallow) };
+        same("made shallow: no fault before", &(again.code != 0 && again.at < reading.at), &false)?;
+        self.judge(&shallow, &again, run);
         Ok(())
     }
 

@@ -158,6 +158,8 @@ pub struct Reading {
     pub header: Vec<Value>,
     pub place: Place,
     pub opened: Vec<Opened>,
+    /// Where the last record at the limit of depth begins: on code 8, the one in which another would begin.
+    pub at_limit: usize,
 }
 
 struct Reader<'a> {
@@ -166,12 +168,13 @@ struct Reader<'a> {
     header: Vec<Value>,
     place: Place,
     opened: Vec<Opened>,
+    at_limit: usize,
 }
 
 impl<'a> Reader<'a> {
     fn new(data: &'a [u8]) -> Self {
         let cursor = Cursor::new(data, 0, data.len());
-        Reader { cursor, store: Vec::new(), header: Vec::new(), place: Place::Header, opened: Vec::new() }
+        Reader { cursor, store: Vec::new(), header: Vec::new(), place: Place::Header, opened: Vec::new(), at_limit: 0 }
     }
 
     fn describe(&mut self, kind: u32, format: u32, start: usize, length: usize, parent: u32, depth: u32) -> u32 {
@@ -232,6 +235,9 @@ impl<'a> Reader<'a> {
         if depth > MAX_DEPTH {
             return Err(Refusal { code: 8, at });
         }
+        if depth == MAX_DEPTH {
+            self.at_limit = at;
+        }
         let format = self.cursor.word()?;
         let (start, length) = self.cursor.opaque()?;
         let own = self.describe(kind, format, start, length, parent, depth);
@@ -272,7 +278,7 @@ impl<'a> Reader<'a> {
         let accepted = code == 0;
         let store = if accepted { self.store } else { Vec::new() };
         let header = if accepted { self.header } else { Vec::new() };
-        Reading { code, at, steps: self.cursor.steps, store, header, place: self.place, opened: self.opened }
+        Reading { code, at, steps: self.cursor.steps, store, header, place: self.place, opened: self.opened, at_limit: self.at_limit }
     }
 }
 
