@@ -142,6 +142,9 @@ def still(checks, collector, rng, most):
     small.datagram([small.put_sample("flow_sample", [])], agent_address=bytes((10, 0, 0, 1)))
     for data in (packed.data, bad, small.data, good):
         collector.send(data)
+    # the largest of them takes its pages while it is decoded, which the socket's queue does not tell
+    collector.drain()
+    time.sleep(0.5)
     before, begun = collector.memory(), time.monotonic()
     one, send = bytes(small.data), collector.send
     for number in range(most):
