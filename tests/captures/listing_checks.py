@@ -1,0 +1,57 @@
+"""The stored listings, each beside its datagram, against the listing program of today and the library."""
+import glob
+import os
+
+import figures
+
+
+class Capture:
+    """A datagram from outside: its name, its bytes, its stored listing, and what that listing says."""
+
+    def __init__(self, path):
+        self.path, self.name = path, os.path.relpath(path, os.path.join(figures.ROOT, "tests", "captures"))
+        with open(path, "rb") as f:
+            self.data = f.read()
+        self.stored = ""
+        if os.path.exists(self.listing_path()):
+            with open(self.listing_path()) as f:
+                self.stored = f.read()
+        self.rows = figures.rows_of(self.stored)
+        self.code = int(self.stored.partition("code=")[2].partition(" ")[0] or -1)
+        self.at = int(self.stored.partition(" at=")[2].partition(" ")[0] or -1)
+        self.nodes = []  # once the library has read the fields
+
+    def listing_path(self):
+        return os.path.splitext(self.path)[0] + ".listing"
+
+
+def all_captures():
+    return [Capture(path) for path in sorted(glob.glob(os.path.join(figures.ROOT, "tests", "captures", "*", "*.bin")))]
+
+
+def write(captures):
+    """Stores what the program prints today."""
+    for one in captures:
+        text = figures.text_of("listing", one.data)
+        if not text.startswith("code="):
+            raise figures.building.Failed(f"{one.name}: the listing program gives no listing: {text}")
+        with open(one.listing_path(), "w") as f:
+            f.write(text)
+
+
+def read_fields(captures):
+    """The fields of each descriptor that is listed, by the library."""
+    for one, nodes in zip(captures, figures.ours([(one.data, one.rows) for one in captures])):
+        one.nodes = nodes
+
+
+def check(checks, captures):
+    paths = {one.listing_path() for one in captures}
+    stored = set(glob.glob(os.path.join(figures.ROOT, "tests", "captures", "*", "*.listing")))
+    checks.same("listings without a datagram, and datagrams without a listing", set(), paths ^ stored)
+    answers = figures.decoded([one.data.hex() for one in captures])
+    for one, answer in zip(captures, answers):
+        checks.same(f"{one.name}: the listing program", one.stored, figures.text_of("listing", one.data))
+        first = f"code={answer.code} at={answer.at} steps={answer.steps} descriptors={answer.needed}"
+        checks.same(f"{one.name}: the library's answer", one.stored.partition("\n")[0], first)
+        checks.same(f"{one.name}: the library's descriptors", one.rows, answer.rows)

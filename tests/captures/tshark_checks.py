@@ -1,0 +1,104 @@
+"""The listings' figures against tshark: every field that tshark names, with its first byte and its value, and whether it finds a fault.
+
+Where tshark and document 01 part, DECLARED says how and how often, and docs/DIFFERENCES.md why. A difference that is not declared is wrong,
+and so is a declared one that occurs more or less often."""
+import collections
+
+import tshark
+from encoder import MAX_OPAQUE, pads
+
+# beside the fields: whether the datagram is accepted, and whether a refusal's fault is what tshark reads at its place
+ACCEPTED, FAULT = (0, "accepted"), (0, "the fault")
+SAMPLE_LENGTH, RECORD_LENGTH = "sflow_5.sample_length", "sflow_5.flow_data_length"
+RECORDS = ("sflow.flow_sample.flow_record", "sflow.counters_sample.counters_records")
+
+
+def passes_end(one, reading):
+    """Whether the length that tshark reads where the refusal is passes the end: of the sample for a record, else of the datagram."""
+    samples = {at: at + 4 + value for (at, name), value in reading.fields.items() if name == SAMPLE_LENGTH}
+    length = reading.fields.get((one.at, RECORD_LENGTH))
+    if one.at in samples:
+        return samples[one.at] > len(one.data)
+    return length is not None and one.at + 4 + length + pads(length) > samples[max(at for at in samples if at < one.at)]
+
+
+def same_fault(one, reading):
+    if one.code == 3:
+        return one.at == 0 and not reading.taken
+    if one.at == len(one.data):
+        return one.code == 2 and reading.malformed and all(at < one.at for at, _ in reading.fields)
+    if one.code == 5:
+        return reading.fields.get((one.at, RECORD_LENGTH), 0) > MAX_OPAQUE
+    return one.code == 2 and passes_end(one, reading)
+
+
+def not_stepped_over(one, reading, key, ours, theirs):
+    """From such a record's payload to the end of its sample; to the end of all where tshark then finds a fault."""
+    for kind, _, start, _, parent, _ in one.rows:
+        if kind == 3 and start - 8 in reading.unknown:
+            end = len(one.data) if reading.malformed else sum(one.rows[parent][2:4])
+            if start <= key[0] < end or key == ACCEPTED and reading.malformed:
+                return True
+    return False
+
+
+def kept_raw(one, reading, key, ours, theirs):
+    ranges = ((row[2], sum(row[2:4])) for row, node in zip(one.rows, one.nodes) if not node.name)
+    return ours is None and any(start <= key[0] < end for start, end in ranges)
+
+
+def with_pad(one, reading, key, ours, theirs):
+    return key[1] == "sflow_245.header" and ours is not None and theirs == one.data[key[0]:key[0] + len(ours) + pads(len(ours))]
+
+
+def wide_addresses(one, reading, key, ours, theirs):
+    """The second address is two bytes further on, and the type behind it four."""
+    starts = [row[2] for row in one.rows if row[:2] == (2, 2)]
+    behind = {"sflow_245.ethernet.destination_mac_address": (10, 12), "sflow_245.ethernet.packet_type": (16, 20)}.get(key[1], ())
+    return any(key[0] - start in behind and (ours is None or theirs is None) for start in starts)
+
+
+def held_to_packet(one, reading, key, ours, theirs):
+    return key == ACCEPTED and theirs and same_fault(one, reading)
+
+
+def count_cut(one, reading, key, ours, theirs):
+    """None of 256 records, or of a multiple of it, is read."""
+    counts = [(at, value) for (at, name), value in reading.fields.items() if name in RECORDS and at < one.at]
+    return key == FAULT and bool(counts) and max(counts)[1] > 255 and max(counts)[1] % 256 == 0
+
+
+# what tshark does; in how many captures, over how many of its fields, as seen with Debian's tshark 4.0.17; and which differences those are
+DECLARED = {
+    "does not step over the payload of a counter record that it does not know": (8, 372, not_stepped_over),
+    "opens what document 01 keeps raw": (51, 6340, kept_raw),
+    "shows the sampled header with its pad": (15, 57, with_pad),
+    "reads each address of flow record 2 as six bytes and two of pad": (1, 28, wide_addresses),
+    "holds a record to the packet and not to its sample": (2, 2, held_to_packet),
+    "counts a sample's records in eight bits": (1, 1, count_cut),
+}
+
+
+def check(checks, captures):
+    found = {reason: collections.Counter() for reason in DECLARED}
+    for one, reading in zip(captures, tshark.read([one.data for one in captures])):
+        compare(checks, one, reading, found)
+    for reason, (in_captures, over_fields, _) in DECLARED.items():
+        times = len(found[reason]), sum(found[reason].values())
+        checks.same(f"tshark {reason}: in how many captures, over how many fields", (in_captures, over_fields), times)
+
+
+def compare(checks, one, reading, found):
+    expected, got = {ACCEPTED: one.code == 0}, {ACCEPTED: reading.taken and not reading.malformed}
+    if one.code == 0:
+        expected.update(tshark.expected(one.rows, one.nodes))
+        got.update(reading.fields)
+    else:
+        expected[FAULT], got[FAULT] = True, same_fault(one, reading)
+    for key in sorted(expected.keys() | got.keys()):
+        ours, theirs = expected.get(key), got.get(key)
+        reasons = [reason for reason, (_, _, is_one) in DECLARED.items() if ours != theirs and is_one(one, reading, key, ours, theirs)]
+        if reasons:
+            found[reasons[0]][one.name] += 1
+        else:
+            checks.same(f"{one.name}: {key[1]} at {key[0]}, by tshark", theirs, ours)
