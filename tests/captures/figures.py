@@ -37,9 +37,9 @@ def prepare():
     building.program("calls", building.calls_sources(), archive, building.PLAIN)
 
 
-def called(lines):
+def called(lines, **more):
     """What `calls` prints for these lines, a line for each that asks something."""
-    ran = subprocess.run([building.made("calls")], input="\n".join(lines) + "\n", capture_output=True, text=True)
+    ran = subprocess.run([building.made("calls")], input="\n".join(lines) + "\n", capture_output=True, text=True, **more)
     if ran.returncode:
         raise building.Failed(f"calls ended with {ran.returncode}: {ran.stderr.strip()}")
     return ran.stdout.splitlines()
@@ -51,9 +51,18 @@ def answer_of(line):
     return Answer(**numbers, rows=rows)
 
 
-def decoded(inputs, call="decode"):
+def decoded(inputs, call="decode", **more):
     """The library's answers; an input is hex, or HEX*N where zeros fill it up to N bytes. The store has room for 4,096 descriptors."""
-    return [answer_of(line) for line in called(word for one in inputs for word in (f"data {one or '-'}", f"{call} 24576"))]
+    lines = (line for one in inputs for line in (f"data {one or '-'}", f"{call} 24576"))
+    return [answer_of(line) for line in called(lines, **more)]
+
+
+def listing_of(answer):
+    """What the listing program must print for an answer."""
+    names = ("kind", "format", "start", "length", "parent", "depth")
+    lines = [f"code={answer.code} at={answer.at} steps={answer.steps} descriptors={answer.needed}"]
+    lines += [" ".join(f"{name}={value}" for name, value in zip(names, row)) for row in answer.rows]
+    return "".join(line + "\n" for line in lines)
 
 
 def text_of(program, data):

@@ -52,6 +52,4 @@ def check(checks, captures):
     answers = figures.decoded([one.data.hex() for one in captures])
     for one, answer in zip(captures, answers):
         checks.same(f"{one.name}: the listing program", one.stored, figures.text_of("listing", one.data))
-        first = f"code={answer.code} at={answer.at} steps={answer.steps} descriptors={answer.needed}"
-        checks.same(f"{one.name}: the library's answer", one.stored.partition("\n")[0], first)
-        checks.same(f"{one.name}: the library's descriptors", one.rows, answer.rows)
+        checks.same(f"{one.name}: the library", one.stored, figures.listing_of(answer))
