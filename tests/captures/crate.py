@@ -39,17 +39,28 @@ def prepare():
         raise building.Failed(str(trouble))
 
 
-def told(inputs, *options, stack=8 << 20):
-    """Two lines for each input: as one datagram, and as a run. None where the process was ended by a signal."""
+def ran(inputs, options, memory=None):
+    """The program over these inputs, with a stack of 8 MiB and, where it is given, so many bytes of memory."""
     def limit():
-        resource.setrlimit(resource.RLIMIT_STACK, (stack, resource.getrlimit(resource.RLIMIT_STACK)[1]))
-    ran = subprocess.run([PROGRAM, *options], input="".join(one + "\n" for one in inputs).encode(), capture_output=True, preexec_fn=limit)
-    if ran.returncode < 0:
-        return None
-    if ran.returncode:
-        raise building.Failed(ran.stderr.decode().strip())
-    lines = ran.stdout.decode().splitlines()
+        resource.setrlimit(resource.RLIMIT_CORE, (0, 0))
+        resource.setrlimit(resource.RLIMIT_STACK, (8 << 20, resource.getrlimit(resource.RLIMIT_STACK)[1]))
+        if memory:
+            resource.setrlimit(resource.RLIMIT_AS, (memory, memory))
+    return subprocess.run([PROGRAM, *options], input="".join(one + "\n" for one in inputs).encode(), capture_output=True, preexec_fn=limit)
+
+
+def told(inputs, *options):
+    """Two lines for each input: as one datagram, and as a run."""
+    done = ran(inputs, options)
+    if done.returncode:
+        raise building.Failed(f"the crate's program ended with {done.returncode}: {done.stderr.decode().strip()[:200]}")
+    lines = done.stdout.decode().splitlines()
     return list(zip(lines[::2], lines[1::2]))
+
+
+def ends(one, memory=None):
+    """Whether the input ends the crate's process, by a signal."""
+    return ran([one], ["--outcome"], memory).returncode < 0
 
 
 class Named:

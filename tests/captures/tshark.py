@@ -59,7 +59,7 @@ def value_of(one):
     shown = one.get("show")
     if re.fullmatch(r"0x[0-9a-f]+|\d+", shown) and not one.get("name").endswith(TEXTS):
         return int(shown, 0)
-    return bytes.fromhex(one.get("value"))
+    return bytes.fromhex(one.get("value") or "")
 
 
 # the fields that hold text or bytes, which may look like a number

@@ -1,7 +1,7 @@
 //! What the crate gives for each line of standard input, which is an input's bytes in hex, or `HEX*N` where zeros fill it up to N bytes.
 //!
 //! Two lines for each: as one datagram, Rust's own rendering of the crate's structure or error; as a run, how many datagrams or the
-//! error. With `--outcome` the structure is left out, so that nothing but the parsing goes deep.
+//! error. With `--outcome` both lines are of that kind, so that nothing but the parsing goes deep.
 
 use sflow_parser::parsers::{parse_datagram, parse_datagrams};
 use std::io::BufRead;
@@ -26,7 +26,7 @@ fn main() {
         };
         let one = parse_datagram(&bytes);
         match outcome {
-            true => println!("{:?}", one.map(|_| ())),
+            true => println!("{:?}", one.map(|_| 1)),
             false => println!("{one:?}"),
         }
         println!("{:?}", parse_datagrams(&bytes).map(|all| all.len()));
