@@ -30,11 +30,12 @@ def all_captures():
 
 
 def write(captures):
-    """Stores what the program prints today."""
-    for one in captures:
-        text = figures.text_of("listing", one.data)
+    """Stores what the program prints today; nothing where one of them is no listing."""
+    texts = [figures.text_of("listing", one.data) for one in captures]
+    for one, text in zip(captures, texts):
         if not text.startswith("code="):
             raise figures.building.Failed(f"{one.name}: the listing program gives no listing: {text}")
+    for one, text in zip(captures, texts):
         with open(one.listing_path(), "w") as f:
             f.write(text)
 
