@@ -106,11 +106,11 @@ module _ (s : List ℕ) (c : Cursor) {w : Word} (e : word-out w ≡ read-item wo
   pub opaque-long : {v : ℕ} {d : Cursor} {r : Outcome} → w ≡ a-word.Got v d → max-opaque < v → r ≡ refused 5 c → refusal r ≡ read-item opaque s (place c)
   opaque-long h l r = rw r (opaques.opaque-long s (place c) (is-word h) l)
 
-  pub opaque-short : {v : ℕ} {d : Cursor} {r : Outcome} → w ≡ a-word.Got v d → v ≤ max-opaque → length s - d .at < padded v → r ≡ refused 2 c → refusal r ≡ read-item opaque s (place c)
-  opaque-short h l t r = rw r (opaques.opaque-short s (place c) (is-word h) l t)
+  pub opaque-short : {v n : ℕ} {d : Cursor} {r : Outcome} → w ≡ a-word.Got v d → v ≤ max-opaque → n ≡ padded v → length s - d .at < n → r ≡ refused 2 c → refusal r ≡ read-item opaque s (place c)
+  opaque-short h l z t r = rw r (opaques.opaque-short s (place c) (is-word h) l (rw z at t))
 
-  pub opaque-got : {v : ℕ} {d : Cursor} → w ≡ a-word.Got v d → v ≤ max-opaque → padded v ≤ length s - d .at → got (part (record { start = d .at; count = v })) (record { at = d .at + padded v; steps = d .steps }) ≡ read-item opaque s (place c)
-  opaque-got h l t = opaques.opaque-got s (place c) (is-word h) l t
+  pub opaque-got : {v n : ℕ} {d : Cursor} → w ≡ a-word.Got v d → v ≤ max-opaque → n ≡ padded v → n ≤ length s - d .at → got (part (record { start = d .at; count = v })) (record { at = d .at + n; steps = d .steps }) ≡ read-item opaque s (place c)
+  opaque-got h l z t = rw z (opaques.opaque-got s (place c) (is-word h) l (rw z at t))
 
 -- ---- a string by its opaque
 module _ (s : List ℕ) (c : Cursor) {o : Part} (e : part-out o ≡ read-item opaque s (place c)) where

@@ -1,4 +1,6 @@
 pub mod Windows
+pub mod Turned
+pub mod Whole
 pub mod Inside
 pub mod Laws
 pub mod Fixed

@@ -1,5 +1,5 @@
 -- What this crate's cursor and answers are in terms of the reading. Assumes nothing.
-use Prim.Native.Nat.{ℕ, zero, suc, _+_, _-_, _≤_}
+use Prim.Native.Nat.{ℕ, zero, suc, _+_, _-_, _*_, _/_, _%_, _≤_}
 use mathlib.Core.Path.{_≡_}
 use mathlib.Core.Bool.{cond}
 use mathlib.Core.List.{List, [], _∷_}
@@ -86,6 +86,10 @@ width Four = script.four
 width Six = script.six
 width Eight = script.eight
 width Sixteen = script.sixteen
+
+-- a word with its bytes in the other order
+unfoldable pub turned : ℕ → ℕ
+turned w = w % 256 * 16777216 + w / 256 % 256 * 65536 + w / 65536 % 256 * 256 + w / 16777216
 
 -- n bytes of s, one by one, from `at` on, and the rest behind them
 abbrev pub window : ℕ → List ℕ → (at k : ℕ) → List ℕ → List ℕ

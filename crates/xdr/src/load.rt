@@ -1,9 +1,9 @@
 // Numbers and blocks that are known to be there.
 ghost use mathlib.Core.Path.{_≡_};
-ghost use Prim.Native.Nat.{_+_, _≤_, _<_};
+ghost use Prim.Native.Nat.{_+_, _^_, _≤_, _<_};
 ghost use lib.ListN.{length, replicate};
-ghost use Rattle.reading.specs.Bytes.{be4, be8, signed};
-ghost use Rattle.xdr.specs.Shown.{octets-at};
+ghost use Rattle.reading.specs.Bytes.{be4, be8, signed, padded};
+ghost use Rattle.xdr.specs.Shown.{octets-at, turned};
 
 fn wide(b: u8) -> u32
     ensures { λ r. ⌜ (r ≡ b) × (r < 256) ⌝ }
@@ -11,16 +11,31 @@ fn wide(b: u8) -> u32
     b as u32
 }
 
-// The big-endian number of four bytes.
-pub fn be32(s: &[u8], at: usize) -> u32
+// The number of four bytes, the last one highest, which is one load on a little-endian processor.
+fn le32(s: &[u8], at: usize) -> u32
     requires { ⌜ at + 4 ≤ length (now s) ⌝ }
-    ensures { λ r. ⌜ r ≡ be4 (now (s .entry)) at ⌝ }
+    ensures { λ r. ⌜ turned r ≡ be4 (now (s .entry)) at ⌝ }
 {
     let a = wide(s[at]);
     let b = wide(s[at + 1]);
     let c = wide(s[at + 2]);
     let d = wide(s[at + 3]);
-    a * 16777216 + b * 65536 + c * 256 + d
+    d * 16777216 + c * 65536 + b * 256 + a
+}
+
+// A word with its bytes in the other order.
+fn turned(w: u32) -> u32
+    ensures { λ r. ⌜ r ≡ turned w ⌝ }
+{
+    w % 256 * 16777216 + w / 256 % 256 * 65536 + w / 65536 % 256 * 256 + w / 16777216
+}
+
+// The big-endian number of four bytes.
+pub fn be32(s: &[u8], at: usize) -> u32
+    requires { ⌜ at + 4 ≤ length (now s) ⌝ }
+    ensures { λ r. ⌜ r ≡ be4 (now (s .entry)) at ⌝ }
+{
+    turned(le32(s, at))
 }
 
 // The big-endian number of eight bytes.
@@ -31,6 +46,14 @@ pub fn be64(s: &[u8], at: usize) -> u64
     let high = be32(s, at) as u64;
     let low = be32(s, at + 4) as u64;
     high * 4294967296 + low
+}
+
+// How many bytes an opaque of so many has with its pad.
+pub fn padded(count: usize) -> usize
+    requires { ⌜ count < 2 ^ 32 ⌝ }
+    ensures { λ r. ⌜ r ≡ padded count ⌝ }
+{
+    (count + 3) / 4 * 4
 }
 
 // A word as a signed number, in two's complement.

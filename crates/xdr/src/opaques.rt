@@ -7,6 +7,7 @@ use crate::Cursor;
 use crate::Part;
 use crate::Span;
 use crate::Word;
+use crate::load;
 use crate::utf8;
 
 const MAX_OPAQUE_SIZE: u32 = 104857600;
@@ -24,7 +25,7 @@ impl Cursor {
                 }
                 let start = d.at;
                 let count = length as usize;
-                let padded = count + (4 - count % 4) % 4;
+                let padded = load::padded(count);
                 if s.len() - start < padded {
                     return Part::Stop(self.refusal(2));
                 }

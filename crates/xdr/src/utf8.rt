@@ -97,29 +97,30 @@ fn sequence(s: &[u8], at: usize) -> usize
     0
 }
 
-// Whether the sixteen bytes at `at` are all UTF8-1: no branch for a byte, so that they are tested at once.
-fn block(s: &[u8], at: usize) -> bool
-    requires { ⌜ at + 16 ≤ length (now s) ⌝ }
-    ensures { λ r. ⌜ r ≡ leb 16 (plain (drop at (now (s .entry)))) ⌝ }
+// Whether the n bytes at `at` are all UTF8-1: no branch for a byte, so that they are tested at once.
+fn block(s: &[u8], at: usize, n: usize) -> bool
+    requires { ⌜ at + n ≤ length (now s) ⌝ }
+    ensures { λ r. ⌜ r ≡ leb n (plain (drop at (now (s .entry)))) ⌝ }
 {
     let mut all = true;
     let mut i = 0;
-    while i < 16 {
+    while i < n {
         all = all & among(0x00, 0x7f, s[at + i]);
         i += 1;
     }
     all
 }
 
-// Past the blocks of sixteen UTF8-1 at `at`.
-fn past_blocks(s: &[u8], at: usize) -> usize
+// Past the blocks of n UTF8-1 at `at`.
+fn past_blocks(s: &[u8], at: usize, n: usize) -> usize
     requires { ⌜ at ≤ length (now s) ⌝ }
-    ensures { λ r. ⌜ r ≡ at + plain (drop at (now (s .entry))) / 16 * 16 ⌝ }
+    requires { ⌜ 0 < n ⌝ }
+    ensures { λ r. ⌜ r ≡ at + plain (drop at (now (s .entry))) / n * n ⌝ }
 {
     let mut i = at;
-    while i + 16 <= s.len() {
-        if block(s, i) {
-            i += 16;
+    while n <= s.len() - i {
+        if block(s, i, n) {
+            i += n;
         } else {
             return i;
         }
@@ -143,12 +144,13 @@ fn past_bytes(s: &[u8], at: usize) -> usize
     i
 }
 
-// Past the run of UTF8-1 at `at`.
+// Past the run of UTF8-1 at `at`: by blocks of 64, of 8, and one by one.
 fn past_run(s: &[u8], at: usize) -> usize
     requires { ⌜ at ≤ length (now s) ⌝ }
     ensures { λ r. ⌜ r ≡ at + plain (drop at (now (s .entry))) ⌝ }
 {
-    past_bytes(s, past_blocks(s, at))
+    let wide = past_blocks(s, at, 64);
+    past_bytes(s, past_blocks(s, wide, 8))
 }
 
 // Whether the bytes are well-formed UTF-8, as RFC 3629's table has it.

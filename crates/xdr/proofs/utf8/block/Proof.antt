@@ -11,10 +11,10 @@ use Rattle.xdr.proofs.utf8.block.Statement.{statement}
 use Rattle.xdr.proofs.utf8.block.Tie as tie
 
 abbrev Inv-loop : tie.InvT-loop
-Inv-loop s at all₀ i₀ all i = (i ≤ 16) × (all ≡ leb i (plain (drop at s)))
+Inv-loop s at n all₀ i₀ all i = (i ≤ n) × (all ≡ leb i (plain (drop at s)))
 
 abbrev μ-loop : tie.MeasureT-loop
-μ-loop s at all₀ i₀ all i = 16 - i
+μ-loop s at n all₀ i₀ all i = n - i
 
 pub block-spec : {M : Type 1} → statement M
 block-spec =
@@ -31,5 +31,5 @@ block-spec =
     (λ c.
     let p = c .before .before .before in
     (omega arith, plain-byte (p .before .before .args .s .now) (p .before .before .args .at) (p .loop .i) (p .loop .inv .1) (c .among .ensures) (omega arith)))  -- loop-again
-    (λ c. let e : c .before .loop .i ≡ 16 = omega arith in cc)  -- returns
+    (λ c. let e : c .before .loop .i ≡ c .before .before .before .args .n = omega arith in cc)  -- returns
     )

@@ -7,14 +7,15 @@ use borrow.Author.Tests.{leb-true, leb-false}
 use lib.ListN.{length, drop}
 use Rattle.reading.proofs.Utf8.{plain}
 use Rattle.reading.proofs.Utf8Places.{plain-past, plain-room}
+use Rattle.xdr.proofs.Whole.{blocks-on, blocks-none}
 use Rattle.xdr.proofs.utf8.past_blocks.Statement.{statement}
 use Rattle.xdr.proofs.utf8.past_blocks.Tie as tie
 
 abbrev Inv-loop : tie.InvT-loop
-Inv-loop s at i₀ i = (i ≤ length s) × (i + plain (drop i s) / 16 * 16 ≡ at + plain (drop at s) / 16 * 16)
+Inv-loop s at n i₀ i = (i ≤ length s) × (i + plain (drop i s) / n * n ≡ at + plain (drop at s) / n * n)
 
 abbrev μ-loop : tie.MeasureT-loop
-μ-loop s at i₀ i = length s - i
+μ-loop s at n i₀ i = length s - i
 
 pub past-blocks-spec : {M : Type 1} → statement M
 past-blocks-spec =
@@ -29,8 +30,21 @@ past-blocks-spec =
     (λ c. search needs)  -- loop-less
     (λ c.
     let p = c .before .before .before in
-    let t = sym (c .before .block .ensures) ∙ c .if1 .taken in
-    omega (arith, plain-past (p .before .before .args .s .now) (p .loop .i) 16 (omega (arith, leb-true))))  -- loop-again
-    (λ c. let t = sym (c .before .block .ensures) ∙ c .if1 .left in omega (arith, leb-false))  -- returns
-    (λ c. omega (arith, plain-room (c .before .before .before .args .s .now) (c .before .loop .i)))  -- returns-2
+    let s = p .before .before .args .s .now in
+    let n = p .before .before .args .n in
+    let h : n ≤ plain (drop (p .loop .i) s) = leb-true n (plain (drop (p .loop .i) s)) (sym (c .before .block .ensures) ∙ c .if1 .taken) in
+    let a = plain-past s (p .loop .i) n h in
+    omega (arith, blocks-on n (plain (drop (p .loop .i) s)) (plain (drop (p .loop .i + n) s)) (search needs) a))  -- loop-again
+    (λ c.
+    let p = c .before .before .before in
+    let s = p .before .before .args .s .now in
+    let n = p .before .before .args .n in
+    let h = leb-false n (plain (drop (p .loop .i) s)) (sym (c .before .block .ensures) ∙ c .if1 .left) in
+    omega (arith, blocks-none n (plain (drop (p .loop .i) s)) h))  -- returns
+    (λ c.
+    let p = c .before in
+    let s = p .before .before .args .s .now in
+    let n = p .before .before .args .n in
+    let h = plain-room s (p .loop .i) in
+    omega (arith, blocks-none n (plain (drop (p .loop .i) s)) (omega arith)))  -- returns-2
     )

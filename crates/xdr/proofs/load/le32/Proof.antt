@@ -1,11 +1,10 @@
+use Rattle.xdr.proofs.Turned.{turned-be4}
 use borrow.Author.Needs.{needs}
-use Rattle.reading.specs.Bytes.{be4}
-use Rattle.xdr.proofs.load.be32.Statement.{statement}
-use Rattle.xdr.proofs.load.be32.Tie as tie
+use Rattle.xdr.proofs.load.le32.Statement.{statement}
+use Rattle.xdr.proofs.load.le32.Tie as tie
 
-pub be32-spec : {M : Type 1} → statement M
-unfolding be4
-be32-spec =
+pub le32-spec : {M : Type 1} → statement M
+le32-spec =
     tie.close
     (tie.spec
     (λ c. search needs)  -- shared-slice-read-wide load.rt:19:18
@@ -25,5 +24,5 @@ be32-spec =
     (λ c. search needs)  -- mul-result-3 load.rt:23:32
     (λ c. search needs)  -- add-result-2 load.rt:23:5
     (λ c. search needs)  -- add-result-3 load.rt:23:5
-    (λ c. cc)  -- returns load.rt:15:1
+    (λ c. search (turned-be4, needs))  -- returns load.rt:15:1
     )
