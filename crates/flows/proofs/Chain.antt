@@ -153,7 +153,7 @@ module _ (s : List ℕ) {p : Passed} (c : Cursor) (h : p ≡ passed.Got c) {w : 
   no-long e = rw h (item-halts long s c (rw e at f))
 
 -- a refusal is not where all was read
-unsure : {A : Type 0} {x : Outcome} {c : Cursor} → passed.Stop x ≡ passed.Got c → A
+pub unsure : {A : Type 0} {x : Outcome} {c : Cursor} → passed.Stop x ≡ passed.Got c → A
 unsure e = let z : _≡_ {A = ℕ} 0 1 = cc in absurd (omega arith)
 
 -- n words, by where they begin
@@ -183,6 +183,9 @@ pub sure-back : {l : List Field} {s : List ℕ} {q r : Passed} {vs : List Value}
 sure-back (goes {d} a i) w = record { cursor = d; is = refl }
 sure-back (halts a) w = unsure (w .is)
 sure-back stays w = w
+
+pub there-on : {n : ℕ} {l : List Field} {s : List ℕ} {q r : Passed} {at : ℕ} {vs : List Value} → There n s q at → Then l s q r vs → There n s r at
+there-on t u = record { fits = λ w. t .fits (sure-back u w) }
 
 pub row-few : {q : Passed} {n : ℕ} {s : List ℕ} {at : ℕ} → There n s q at → Sure q → n ≤ 11 → Has-words n s at
 row-few t w l = record { few = l; fits = t .fits w }
@@ -233,6 +236,10 @@ module _ (s : List ℕ) (at : ℕ) where
       each (suc (suc (suc (suc (suc (suc (suc (suc (suc zero))))))))) k = e9 ∙ has 9 k
       each (suc (suc (suc (suc (suc (suc (suc (suc (suc (suc zero)))))))))) k = e10 ∙ has 10 k
       each (suc (suc (suc (suc (suc (suc (suc (suc (suc (suc (suc m))))))))))) k = absurd (omega (arith, k, l))
+
+-- two of them, between other values
+pub two-loaded : (w s : List ℕ) (at : ℕ) (a : Value) (b : List Value) → loaded 2 w ≡ numbers 2 s at → a ∷ loaded 2 w ++ b ≡ a ∷ numbers 2 s at ++ b
+two-loaded w s at a b e = ap (λ (l : List Value). a ∷ l ++ b) e
 
 -- one of them
 module _ (s : List ℕ) (at n i : ℕ) where
@@ -285,11 +292,18 @@ range-got e = rw e
 pub range-stop : {o : Part} {x : Outcome} → o ≡ a-part.Stop x → no-range x ≡ range-of o
 range-stop e = rw e
 
+-- an opaque, by its part
+pub then-opaque : (s : List ℕ) {p : Passed} (c : Cursor) (o : Part) {r : Ranged} → p ≡ passed.Got c → Inside s c → part-out o ≡ read-item opaque s (place c) → r ≡ range-of o → Then (plain opaque ∷ []) s p (r .passed) (part (span (r .span)) ∷ [])
+then-opaque s c o h i e q = rw (h, q) (go o e)
+  where
+    go : (o : Part) → part-out o ≡ read-item opaque s (place c) → Then (plain opaque ∷ []) s (passed.Got c) (range-of o .passed) (part (span (range-of o .span)) ∷ [])
+    go (a-part.Got x d) e = item-goes opaque s c i e
+    go (a-part.Stop x) e = item-halts opaque s c e
+
 pub range-arm : {k j : Kind} {s : List ℕ} {c : Cursor} {q : Passed} {vs : List Value} → k ≡ j → Reads (field-of j ∷ []) s c q vs → Reads (field-of k ∷ []) s c q vs
 range-arm e r = rw e r
 
 pub data Part-of : Kind → Item → Type 0 where
-  is-opaque : Part-of kind.Opaque opaque
   is-text : Part-of kind.Text string
 
 module _ (s : List ℕ) (c : Cursor) where
@@ -304,9 +318,7 @@ module _ (s : List ℕ) (c : Cursor) where
       item-cut i e = record { is = halts-shown (plain i ∷ []) s (place c) (sole-halts (plain i) s (place c) (sym e)) }
 
       go : {j : Kind} {i : Item} (o : Part) → part-out o ≡ read-item i s (place c) → Part-of j i → Reads (field-of j ∷ []) s c (range-of o .passed) (part (span (range-of o .span)) ∷ [])
-      go (a-part.Got x d) e is-opaque = item-read opaque e
       go (a-part.Got x d) e is-text = item-read string e
-      go (a-part.Stop x) e is-opaque = item-cut opaque e
       go (a-part.Stop x) e is-text = item-cut string e
 
 -- for the readers: where the next item begins, and what all the items make
@@ -315,9 +327,9 @@ pub ruleset steps = (within-start, within-then, needs)
 -- for the words of a row
 pub ruleset places = (row-held, row-few, sure-got, sure-back, needs)
 
-pub ruleset parts = (then-got, then-stop, then-on, then-is, ends, ends-on)
+pub ruleset parts = (then-got, then-stop, then-on, then-is, there-on, ends, ends-on)
 
 pub ruleset rows = (all-read, all-refused, then-on, then-is, ends, ends-on)
 
 -- for the items themselves
-pub ruleset items = (within-got, handed-on, from-there, then-reads, then-word, no-word, then-long, no-long, then-sixteen, then-six, range-got, range-stop, is-opaque, is-text, range-part, range-arm, then-row, row-there, row-none, load-each, load-word, load-zero, needs)
+pub ruleset items = (within-got, handed-on, from-there, then-reads, then-word, no-word, then-long, no-long, then-sixteen, then-six, range-got, range-stop, then-opaque, is-text, range-part, range-arm, then-row, row-there, row-none, load-each, load-word, load-zero, needs)

@@ -4,3 +4,4 @@ pub mod Protocols
 pub mod Scan
 pub mod Formats
 pub mod Placing
+pub mod Early

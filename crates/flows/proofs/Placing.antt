@@ -1,9 +1,10 @@
 -- The second pass: a law for each need of its functions, with the facts that the code has there. Assumes nothing.
-use Prim.Native.Nat.{ℕ, zero, suc, _+_, _*_, _-_, _%_, _≤_, _<_}
+use Prim.Native.Nat.{ℕ, zero, suc, _+_, _*_, _-_, _^_, _≤_, _<_}
 use mathlib.Core.Path.{_≡_, sym, ap, _∙_}
 use mathlib.Core.List.{List, [], _∷_, _++_}
 use native.Mathlib.Omega.{arith}
 use native.Mathlib.Nat.{add-zero}
+use borrow.Author.Needs.{needs}
 use lib.ListN.{length, take}
 use lib.Seq.{length-take-le}
 use mir.Syntax.{w32, w64}
@@ -39,6 +40,10 @@ module _ {w : Written} {l′ : List ℕ} (pen : Pen) (o : Out Found) (l : List �
 
   pub put-kept : length l′ ≡ length l
   put-kept = ap length store-is ∙ write-length _ _ _
+
+-- the store keeps its length, turn after turn
+pub kept-on : {w : Written} {l′ : List ℕ} (pen : Pen) (o : Out Found) (l : List ℕ) (n : ℕ) → written w l′ ≡ placed pen o l → length l ≡ n → length l′ ≡ n
+kept-on pen o l n e k = put-kept pen o l e ∙ k
 
 abbrev pub a-pen : (base parent next : ℕ) → Pen
 a-pen b p n = record { base = b; parent = p; next = n }
@@ -282,8 +287,11 @@ module _ (kind depth : ℕ) (body : ℕ → Script) (s l : List ℕ) (at : ℕ) 
     pub frame-end : Fits w64 (at + 8 + n)
     frame-end = record { fits = omega (arith, frame-fit, g .short) }
 
-    pub frame-pad : Fits w64 (at + 8 + n + (4 - n % 4) % 4)
-    frame-pad = record { fits = omega (arith, frame-fit, g .short) }
+    pub frame-pad : {p : ℕ} → p ≡ padded n → Fits w64 (at + 8 + p)
+    frame-pad z = record { fits = omega (arith, frame-fit, g .short) }
+
+    pub frame-count : n < 2 ^ 32
+    frame-count = omega (arith, frame-fit, g .short)
 
     pub frame-part : at + 8 + n ≡ length (take (at + 8 + n) s)
     frame-part = sym (length-take-le (at + 8 + n) s (omega (arith, frame-fit)))
@@ -319,12 +327,12 @@ module _ (kind depth : ℕ) (body : ℕ → Script) (s l : List ℕ) (at : ℕ) 
       -- what it holds was written, with the frame's range as its parent
       module _ {m : ℕ} {l′ : List ℕ} (e : filled m l′ ≡ fills (behind pen (me pen)) (follow (body f) (take (at + 8 + n) s) (from (at + 8))) l)
           {l″ : List ℕ} {d : ℕ} (i : d ≡ depth) (q : l″ ≡ write l′ (6 * pen .next) (kind ∷ f ∷ (at + 8) ∷ n ∷ pen .parent ∷ d ∷ [])) where
-        pub frame-placed : a-put (at + 8 + n + (4 - n % 4) % 4) m l″ ≡ placed pen (follow (framed kind depth body) s (from at)) l
+        pub frame-placed : {p : ℕ} → p ≡ padded n → a-put (at + 8 + p) m l″ ≡ placed pen (follow (framed kind depth body) s (from at)) l
         unfolding placed
-        frame-placed =
+        frame-placed {p} z =
             let r : Range = record { kind = kind; format = be4 s at; span = record { start = at + 8; count = be4 s (at + 4) }; depth = depth } in
             let y : l″ ≡ write l′ (6 * pen .next) (kind ∷ be4 s at ∷ (at + 8) ∷ be4 s (at + 4) ∷ pen .parent ∷ depth ∷ []) = rw (u, v, i) at q in
-            let a : at + 8 + n + (4 - n % 4) % 4 ≡ end-of (follow (framed kind depth body) s (from at)) = rw v (omega arith) ∙ sym (frame .end) in
+            let a : at + 8 + p ≡ end-of (follow (framed kind depth body) s (from at)) = rw (z, v) (omega arith) ∙ sym (frame .end) in
             let b : m ≡ pen .next + size (ranges-of (follow (framed kind depth body) s (from at))) = inner-next (me pen) e ∙ rw frame-size (omega arith) in
             let w : l″ ≡ write l (6 * pen .next) (rows (pen .base + pen .next) (pen .parent) (ranges-of (follow (framed kind depth body) s (from at)))) =
             own-first s l (pen .base) (pen .parent) (pen .next) r (ranges-of (follow (body (be4 s at)) (take (at + 8 + be4 s (at + 4)) s) (from (at + 8)))) (inner-store (me pen) e) y
@@ -371,8 +379,11 @@ module _ (left : ℕ) (s l : List ℕ) (at : ℕ) (pen : Pen) (g : Ready s l pen
     pub record-end : Fits w64 (at + 8 + n)
     record-end = frame-end 2 (8 - (left - 1)) (holds (left - 1)) s l at pen ready v
 
-    pub record-pad : Fits w64 (at + 8 + n + (4 - n % 4) % 4)
+    pub record-pad : {p : ℕ} → p ≡ padded n → Fits w64 (at + 8 + p)
     record-pad = frame-pad 2 (8 - (left - 1)) (holds (left - 1)) s l at pen ready v
+
+    pub record-count : n < 2 ^ 32
+    record-count = frame-count 2 (8 - (left - 1)) (holds (left - 1)) s l at pen ready v
 
     pub record-part : at + 8 + n ≡ length (take (at + 8 + n) s)
     record-part = frame-part 2 (8 - (left - 1)) (holds (left - 1)) s l at pen ready v
@@ -396,8 +407,51 @@ module _ (left : ℕ) (s l : List ℕ) (at : ℕ) (pen : Pen) (g : Ready s l pen
         same-depth : 9 - left ≡ 8 - (left - 1)
         same-depth = omega (arith, record-some)
 
-        pub record-placed : a-put (at + 8 + n + (4 - n % 4) % 4) m l″ ≡ placed pen (follow (flow 8 left) s (from at)) l
-        record-placed = frame-placed 2 (8 - (left - 1)) (holds (left - 1)) s l at pen ready v u e same-depth q ∙ ap (λ (o : Out Found). placed pen o l) (sym is)
+        pub record-placed : {p : ℕ} → p ≡ padded n → a-put (at + 8 + p) m l″ ≡ placed pen (follow (flow 8 left) s (from at)) l
+        record-placed z = frame-placed 2 (8 - (left - 1)) (holds (left - 1)) s l at pen ready v u e same-depth q z ∙ ap (λ (o : Out Found). placed pen o l) (sym is)
 
 pub one-less : {left : ℕ} → left ≤ 8 → left - 1 ≤ 8
 one-less h = omega arith
+
+-- ---- a flow record of a sample that is no aggregation
+module _ (s l : List ℕ) (at : ℕ) (pen : Pen) (g : Ready s l pen (follow (flow 8 8) s (from at))) {n f : ℕ} (v : n ≡ be4 s (at + 4)) (u : f ≡ be4 s at) (z : be4 s at ≡ 1016 → ⊥) where
+  flat-inside : filled (pen .next + 1) l ≡ fills (behind pen (me pen)) (follow (opened (flows (pdu (8 - (8 - 1)) (flow 8 (8 - 1)))) f) (take (at + 8 + n) s) (from (at + 8))) l
+  flat-inside = data-none (8 - 1) f (take (at + 8 + n) s) l (at + 8) (behind pen (me pen)) (rw (← u) at z)
+
+  pub flat-own : 6 * pen .next + 6 ≤ length l
+  flat-own = record-own 8 s l at pen g v u (me pen) flat-inside
+
+  pub flat-kept : {l″ : List ℕ} (ws : List ℕ) → l″ ≡ write l (6 * pen .next) ws → length l″ ≡ length l
+  flat-kept = record-kept 8 s l at pen g v u (me pen) flat-inside
+
+  pub flat-placed : {l″ : List ℕ} {p : ℕ} → l″ ≡ write l (6 * pen .next) (2 ∷ f ∷ (at + 8) ∷ n ∷ pen .parent ∷ 1 ∷ []) → p ≡ padded n → a-put (at + 8 + p) (pen .next + 1) l″ ≡ placed pen (follow (flow 8 8) s (from at)) l
+  flat-placed q = record-placed 8 s l at pen g v u flat-inside q
+
+-- its format word, where it is the first of some
+pub flat-first : (n : ℕ) (s l : List ℕ) (at base parent next : ℕ) → Ready s l (a-pen base parent next) (times n (follow (flow 8 8)) s (from at)) → 0 < n → at + 4 ≤ length s
+flat-first n s l at base parent next g z = record-word 8 s l at (a-pen base parent next) (ready-first (flow 8 8) n s l at base parent next g z)
+
+pub no-aggregation : (s : List ℕ) (at : ℕ) {f : ℕ} → f ≡ be4 s at → (f ≡ 1016 → ⊥) → be4 s at ≡ 1016 → ⊥
+no-aggregation s at u z e = z (u ∙ e)
+
+pub ruleset flat = (
+  kept-on,
+  put-kept,
+  ready-first,
+  ready-next,
+  put-turn,
+  pen-more,
+  record-word,
+  record-word2,
+  record-four,
+  record-start,
+  record-start32,
+  record-pad,
+  record-count,
+  flat-own,
+  flat-kept,
+  flat-placed,
+  flat-first,
+  no-aggregation,
+  needs,
+)

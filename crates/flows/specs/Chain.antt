@@ -6,9 +6,9 @@ use mathlib.Core.List.{List, [], _∷_}
 use lib.Dec.{leb}
 use lib.ListN.{length, getD}
 use Rattle.reading.specs.Bytes.{be4}
-use Rattle.reading.specs.Script.{Value, number, opaque}
+use Rattle.reading.specs.Script.{Value, number}
 use Rattle.reading.specs.Cursor.{got}
-use Rattle.reading.specs.Layout.{Field, plain, str, list, segments}
+use Rattle.reading.specs.Layout.{Field, str, list, segments}
 use Rattle.reading.proofs.Fields.{fields-out}
 use Rattle.xdr.specs.declared.Cursor.{Cursor}
 use Rattle.xdr.specs.declared.Outcome.{Outcome}
@@ -61,7 +61,6 @@ loaded n w = loaded-from n w 0
 -- ---- what is answered by where it lies
 
 abbrev pub field-of : Kind → Field
-field-of kind.Opaque = plain opaque
 field-of kind.Text = str
 field-of kind.List = list
 field-of kind.Segments = segments

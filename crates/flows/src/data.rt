@@ -33,7 +33,7 @@ pub fn pass(c: Cursor, s: &[u8], format: u32) -> Passed
 {
     let p = Passed::Got(c);
     match format {
-        1 => SampledHeader::parse(p, s).outcome.passed(),
+        1 => SampledHeader::row(p, s).passed,
         2 => SampledEthernet::parse(p, s).outcome.passed(),
         3 => SampledIpv4::row(p, s).passed,
         4 => SampledIpv6::parse(p, s).outcome.passed(),

@@ -3,11 +3,13 @@ ghost use mathlib.Core.Path.{_≡_};
 ghost use mathlib.Core.List.{[], _∷_};
 ghost use Prim.Native.Nat.{_+_, _-_, _*_, _≤_};
 ghost use lib.ListN.{length};
+ghost use Rattle.reading.specs.Bytes.{be4};
 ghost use Rattle.reading.specs.Cursor.{times, follow};
 ghost use Rattle.reading.specs.Layout.{opened, flows, flow, pdu};
 ghost use Rattle.reading.specs.Answer.{from};
 ghost use Rattle.reading.proofs.Stored.{write};
 ghost use Rattle.flows.specs.Written.{Ready, written, placed, filled, fills};
+ghost use Rattle.flows.specs.Passing.{Flat-of};
 use numbers::DataFormat;
 use xdr::load;
 
@@ -88,6 +90,80 @@ pub fn put_flow_records(
     }
 }
 
+// Where flat records end: the next byte, the descriptors written, and the records that are left.
+pub struct Flat {
+    pub at: usize,
+    pub next: usize,
+    pub rest: u32,
+}
+
+// One flow record of a sample that is no aggregation, and so holds no others.
+fn put_flat_record(s: &[u8], at: usize, store: &mut [u32], pen: Pen) -> Written
+    requires { ⌜ (be4 (now s) at ≡ 1016 → ⊥) ⌝ }
+    requires { ⌜ Ready (now s) (now store) pen (follow (flow 8 8) (now s) (from at)) ⌝ }
+    ensures { λ r. ⌜ written r (now (store .exit)) ≡ placed pen (follow (flow 8 8) (now (s .entry)) (from at)) (now (store .entry)) ⌝ }
+{
+    let format = load::be32(s, at);
+    let length = load::be32(s, at + 4);
+    let start = at + 8;
+    let i = pen.next;
+    put(
+        store,
+        i,
+        Descriptor {
+            kind: 2,
+            format: DataFormat(format),
+            start: start as u32,
+            length: length,
+            parent: pen.parent,
+            depth: 1,
+        },
+    );
+    Written {
+        at: start + load::padded(length as usize),
+        next: i + 1,
+    }
+}
+
+// Of n flow records of a sample, those up to the first aggregation: most samples hold none, and this is one loop.
+pub fn put_flat_records(s: &[u8], at: usize, n: u32, store: &mut [u32], pen: Pen) -> Flat
+    requires { ⌜ Ready (now s) (now store) pen (times n (follow (flow 8 8)) (now s) (from at)) ⌝ }
+    ensures { λ r. ⌜ Flat-of (now (s .entry)) (now (store .entry)) at n pen r (now (store .exit)) ⌝ }
+{
+    let base = pen.base;
+    let parent = pen.parent;
+    let mut cur = at;
+    let mut next = pen.next;
+    let mut rest = n;
+    while 0 < rest {
+        if load::be32(s, cur) == 1016 {
+            return Flat {
+                at: cur,
+                next: next,
+                rest: rest,
+            };
+        }
+        let w = put_flat_record(
+            s,
+            cur,
+            &mut *store,
+            Pen {
+                base: base,
+                parent: parent,
+                next: next,
+            },
+        );
+        cur = w.at;
+        next = w.next;
+        rest = rest - 1;
+    }
+    Flat {
+        at: cur,
+        next: next,
+        rest: rest,
+    }
+}
+
 // One flow record: what it holds first, then its own descriptor before that.
 fn put_flow_record(s: &[u8], at: usize, left: usize, store: &mut [u32], pen: Pen) -> Written
     requires { ⌜ left ≤ 8 ⌝ }
@@ -127,7 +203,7 @@ fn put_flow_record(s: &[u8], at: usize, left: usize, store: &mut [u32], pen: Pen
         },
     );
     Written {
-        at: end + (4 - count % 4) % 4,
+        at: start + load::padded(count),
         next: next,
     }
 }

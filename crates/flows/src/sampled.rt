@@ -8,9 +8,8 @@ ghost use Rattle.reading.specs.Answer.{layout-of};
 ghost use Rattle.reading.proofs.Words.{numbers};
 ghost use Rattle.xdr.specs.Shown.{Inside, Answers, refused};
 ghost use Rattle.flows.specs.Chain.{Within, Then, There};
-ghost use Rattle.flows.specs.Shown.{sampled-header, sampled-ethernet, sampled-ipv4, sampled-ipv6};
+ghost use Rattle.flows.specs.Shown.{sampled-row, sampled-header, sampled-ethernet, sampled-ipv4, sampled-ipv6};
 use crate::next;
-use crate::next::Kind;
 use crate::next::Number;
 use crate::next::Run;
 use xdr::Cursor;
@@ -66,6 +65,14 @@ fn unknown(c: Cursor) -> Number
     }
 }
 
+// Where the parts of format 1 lie, which is all that the framing needs of it.
+pub struct SampledRow {
+    pub passed: Passed,
+    pub protocol: u32,
+    pub at: usize,
+    pub header: Span,
+}
+
 // Format 1: the packet's first bytes, by the protocol of its header.
 #[repr(C)]
 pub struct SampledHeader {
@@ -77,17 +84,33 @@ pub struct SampledHeader {
 }
 
 impl SampledHeader {
-    pub fn parse(p: Passed, s: &[u8]) -> SampledHeader
+    pub fn row(p: Passed, s: &[u8]) -> SampledRow
         requires { ⌜ Within (now s) p ⌝ }
-        ensures { λ r. ⌜ Answers (layout-of 2 1) (now (s .entry)) p (r .outcome) (sampled-header r) ⌝ }
+        ensures { λ r. ⌜ Then (layout-of 2 1) (now (s .entry)) p (r .passed) (sampled-row (now (s .entry)) r) ⌝ }
+        ensures { λ r. ⌜ There 2 (now (s .entry)) (r .passed) (r .at) ⌝ }
     {
         let kind = protocol(p, s);
         let passed = kind.passed;
         let row = next::words(passed, s, 2);
         let passed = row.passed;
-        let bytes = next::range(passed, s, Kind::Opaque);
+        let bytes = next::opaque(passed, s);
         let passed = bytes.passed;
         let header = bytes.span;
+        SampledRow {
+            passed: passed,
+            protocol: kind.value,
+            at: row.at,
+            header: header,
+        }
+    }
+
+    pub fn parse(p: Passed, s: &[u8]) -> SampledHeader
+        requires { ⌜ Within (now s) p ⌝ }
+        ensures { λ r. ⌜ Answers (layout-of 2 1) (now (s .entry)) p (r .outcome) (sampled-header r) ⌝ }
+    {
+        let row = SampledHeader::row(p, s);
+        let passed = row.passed;
+        let header = row.header;
         match passed {
             Passed::Stop(r) => SampledHeader {
                 outcome: r,
@@ -100,7 +123,7 @@ impl SampledHeader {
                 let sizes = next::load_words(s, row.at, 2);
                 SampledHeader {
                     outcome: d.accepted(),
-                    protocol: kind.value,
+                    protocol: row.protocol,
                     frame_length: sizes[0],
                     stripped: sizes[1],
                     header: header,

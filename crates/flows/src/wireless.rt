@@ -30,7 +30,7 @@ impl Extended80211Payload {
     {
         let suite = next::word(p, s);
         let passed = suite.passed;
-        let bytes = next::range(passed, s, Kind::Opaque);
+        let bytes = next::opaque(passed, s);
         let passed = bytes.passed;
         let data = bytes.span;
         match passed {

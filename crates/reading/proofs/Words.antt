@@ -10,7 +10,7 @@ use lib.ListN.{length}
 use Rattle.reading.specs.Script.{Value, number, nothing, _&&_, word}
 use Rattle.reading.specs.Cursor.{Place, Out, got, stop, then, on, read-item, times, follow}
 use Rattle.reading.specs.Bytes.{be4}
-use Rattle.reading.specs.Layout.{plain, any-word, words}
+use Rattle.reading.specs.Layout.{plain, any-word, words, last-number}
 use Rattle.reading.proofs.Items.{never}
 use Rattle.reading.proofs.Fields.{field-out, fields-out}
 use Rattle.reading.proofs.Stands.{place}
@@ -84,6 +84,21 @@ shifted (suc n) s at k =
 next-numbers : (n : ℕ) (s : List ℕ) (at : ℕ) → numbers n s (at + 4) ≡ numbers-from n s at 4
 next-numbers zero s at = refl
 next-numbers (suc n) s at = ap (λ (l : List Value). number (be4 s (at + 4)) ∷ l) (shifted n s at 4)
+
+-- the last of them
+pub last-word : (n : ℕ) (s : List ℕ) (at : ℕ) → last-number (numbers (suc n) s at) ≡ be4 s (at + 4 * n)
+unfolding last-number
+last-word n s at = go n
+  where
+    from-there : (n k : ℕ) (v : Value) → last-number (v ∷ numbers-from (suc n) s at k) ≡ be4 s (at + (k + 4 * n))
+    from-there zero k v = let z : k ≡ k + 4 * 0 = omega arith in ap (λ (j : ℕ). be4 s (at + j)) z
+    from-there (suc n) k v =
+        let z : k + 4 + 4 * n ≡ k + 4 * suc n = omega arith in
+        from-there n (k + 4) (number (be4 s (at + k))) ∙ ap (λ (j : ℕ). be4 s (at + j)) z
+
+    go : (n : ℕ) → last-number (numbers (suc n) s at) ≡ be4 s (at + 4 * n)
+    go zero = let z : at ≡ at + 4 * 0 = omega arith in ap (λ (j : ℕ). be4 s j) z
+    go (suc n) = let z : 4 + 4 * n ≡ 4 * suc n = omega arith in from-there n 4 (number (be4 s at)) ∙ ap (λ (j : ℕ). be4 s (at + j)) z
 
 module _ (s : List ℕ) where
   word-there : (p : Place) → p .at + 4 ≤ length s → field-out (plain word) s p ≡ got (number (be4 s (p .at))) (on 4 p)

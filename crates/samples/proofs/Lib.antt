@@ -1,2 +1,3 @@
+pub mod Formats
 pub mod Sampling
 pub mod Placed

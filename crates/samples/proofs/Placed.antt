@@ -1,36 +1,35 @@
 -- The second pass over samples: a law for each need of its functions, with the facts that the code has there. Assumes nothing.
-use Prim.Native.Nat.{ℕ, _+_, _*_, _-_, _%_, _≤_}
+use Prim.Native.Nat.{ℕ, _+_, _*_, _-_, _≤_}
 use mathlib.Core.Path.{_≡_, refl, sym, ap, _∙_}
 use mathlib.Core.List.{List, [], _∷_}
 use native.Mathlib.Omega.{arith}
 use native.Mathlib.Nat.{add-zero}
 use borrow.Author.Needs.{needs}
-use borrow.Author.Tests.{ne-eqb}
 use lib.ListN.{length, take}
-use mir.Syntax.{w64}
-use mir.Val.{Fits}
-use Rattle.reading.specs.Bytes.{be4}
-use Rattle.reading.specs.Script.{Found, Script, give, repeat}
+use Rattle.reading.specs.Bytes.{be4, padded}
+use Rattle.reading.specs.Script.{Found, Script}
 use Rattle.reading.specs.Cursor.{Out, times, follow}
-use Rattle.reading.specs.Layout.{fields, words, last-number, opened, counter, samples}
+use Rattle.reading.specs.Layout.{words, last-number, opened, flow, counter, samples}
 use Rattle.reading.specs.Answer.{size, rows, from}
 use Rattle.reading.proofs.Words.{numbers, row-got}
-use Rattle.reading.proofs.Stored.{write, write-none}
+use Rattle.reading.proofs.Stored.{write, write-length, write-none}
 use Rattle.reading.proofs.Places.{Accepted, ranges-of, Each-at, each-lies, words-lie}
 use Rattle.flows.specs.declared.put.Pen.{Pen}
 use Rattle.flows.specs.declared.put.Written.{Written}
-use Rattle.flows.specs.Written.{Ready, written, placed, filled, fills}
+use Rattle.flows.specs.declared.put.Flat.{Flat}
+use Rattle.flows.specs.Written.{Ready, Put, written, placed, filled, fills}
+use Rattle.flows.specs.Passing.{Flat-of}
 use Rattle.flows.proofs.Placing as placing
 use Rattle.flows.proofs.Placing.{a-pen, a-put, next-is, store-is}
+use Rattle.samples.specs.declared.fields.Kind.{Kind}
+use Rattle.samples.specs.declared.fields.Kind.the-variants as kind
+use Rattle.samples.specs.Held.{counted-by-last, held, words-of, Is-kind}
+use Rattle.samples.proofs.Sampling.{flows-words, counters-words, last-of}
 
 -- nothing is found, and nothing written
 bare-filled : (o : Out Found) (pen : Pen) (l : List ℕ) → ranges-of o ≡ Rattle.reading.specs.Script.bare → filled (pen .next) l ≡ fills pen o l
 unfolding fills placed size rows
 bare-filled o pen l e = sym (rw (e, add-zero, write-none))
-
--- the store keeps its length, turn after turn
-pub kept-on : {w : Written} {l′ : List ℕ} (pen : Pen) (o : Out Found) (l : List ℕ) (n : ℕ) → written w l′ ≡ placed pen o l → length l ≡ n → length l′ ≡ n
-kept-on pen o l n e k = placing.put-kept pen o l e ∙ k
 
 -- ---- a counter record
 module _ (s l : List ℕ) (at : ℕ) (pen : Pen) (g : Ready s l pen (follow counter s (from at))) {n f : ℕ} (v : n ≡ be4 s (at + 4)) (u : f ≡ be4 s at) where
@@ -45,26 +44,40 @@ module _ (s l : List ℕ) (at : ℕ) (pen : Pen) (g : Ready s l pen (follow coun
   counter-kept = placing.frame-kept 3 1 (opened []) s l at pen g v u (pen .base + pen .next) raw-inside
 
   module _ {l″ : List ℕ} (q : l″ ≡ write l (6 * pen .next) (3 ∷ f ∷ (at + 8) ∷ n ∷ pen .parent ∷ 1 ∷ [])) where
-    pub counter-placed : a-put (at + 8 + n + (4 - n % 4) % 4) (pen .next + 1) l″ ≡ placed pen (follow counter s (from at)) l
+    pub counter-placed : {p : ℕ} → p ≡ padded n → a-put (at + 8 + p) (pen .next + 1) l″ ≡ placed pen (follow counter s (from at)) l
     counter-placed = placing.frame-placed 3 1 (opened []) s l at pen g v u raw-inside refl q
 
--- ---- a sample whose n words are followed by as many of `body` as the last of them says
-module _ (k n : ℕ) (body : Script) (s l : List ℕ) (at : ℕ) (pen : Pen) {f : ℕ} (g : Ready s l pen (follow (opened (samples 8) f) s (from at))) (z : f ≡ k) (i : at ≤ length s)
-    (r : opened (samples 8) k ≡ fields (words n) (λ us. repeat (last-number us) body (λ a. give a))) where
-  same : follow (opened (samples 8) f) s (from at) ≡ follow (fields (words n) (λ us. repeat (last-number us) body (λ a. give a))) s (from at)
-  same = ap (λ (x : Script). follow x s (from at)) (ap (opened (samples 8)) z ∙ r)
+-- what was placed, without the position
+pub placed-fills : {w : Written} {l′ : List ℕ} (pen : Pen) (o : Out Found) (l : List ℕ) → written w l′ ≡ placed pen o l → filled (w .next) l′ ≡ fills pen o l
+unfolding fills placed
+placed-fills pen o l e = let a = next-is pen o l e in let b = store-is pen o l e in λ h. record { next = a h; store = b h }
 
-  good : Accepted (follow (fields (words n) (λ us. repeat (last-number us) body (λ a. give a))) s (from at))
+-- ---- a sample whose n words are followed by as many of `body` as the last of them says
+pub held-flows : {r : Kind} {f n : ℕ} → Is-kind r f → r ≡ kind.Flows n → opened (samples 8) f ≡ counted-by-last n (flow 8 8)
+held-flows q e = q .is ∙ ap held e
+
+pub held-counters : {r : Kind} {f n : ℕ} → Is-kind r f → r ≡ kind.Counters n → opened (samples 8) f ≡ counted-by-last n counter
+held-counters q e = q .is ∙ ap held e
+
+pub kind-some : {r : Kind} {f n : ℕ} → Is-kind r f → words-of r ≡ n → 1 ≤ n
+kind-some q e = omega (arith, q .some)
+
+module _ (body : Script) (n : ℕ) (s l : List ℕ) (at : ℕ) (pen : Pen) (f : ℕ) (g : Ready s l pen (follow (opened (samples 8) f) s (from at))) (i : at ≤ length s)
+    (r : opened (samples 8) f ≡ counted-by-last n body) (some : 1 ≤ n) where
+  same : follow (opened (samples 8) f) s (from at) ≡ follow (counted-by-last n body) s (from at)
+  same = ap (λ (x : Script). follow x s (from at)) r
+
+  good : Accepted (follow (counted-by-last n body) s (from at))
   good = rw same at (g .good)
 
   fit : at + 4 * n ≤ length s
   fit = words-lie n _ s at i good
 
-  pub arm-word : (j : ℕ) → j + 4 ≤ 4 * n → at + j + 4 ≤ length s
-  arm-word j h = omega (arith, fit)
+  pub arm-last : 4 ≤ at + 4 * n
+  arm-last = omega (arith, some)
 
-  pub arm-fits : (j : ℕ) → j ≤ 4 * n → Fits w64 (at + j)
-  arm-fits j h = record { fits = omega (arith, fit, g .short) }
+  pub arm-word : at + 4 * n - 4 + 4 ≤ length s
+  arm-word = omega (arith, fit, some)
 
   behind : Each-at (words n) body s at (numbers n s at) (record { at = at + 4 * n; steps = 0 + n })
   behind = each-lies (words n) body s at (row-got s n (from at) fit) good
@@ -72,24 +85,43 @@ module _ (k n : ℕ) (body : Script) (s l : List ℕ) (at : ℕ) (pen : Pen) {f 
   same-ranges : ranges-of (follow (opened (samples 8) f) s (from at)) ≡ ranges-of (times (last-number (numbers n s at)) (follow body) s (from (at + 4 * n)))
   same-ranges = ap ranges-of same ∙ behind .ranges
 
-  module _ {m : ℕ} (v : m ≡ last-number (numbers n s at)) where
+  module _ {m : ℕ} (v : m ≡ be4 s (at + 4 * n - 4)) where
+    counts : m ≡ last-number (numbers n s at)
+    counts = let z : at + 4 * n - 4 ≡ at + (4 * n - 4) = omega (arith, some) in v ∙ ap (λ (j : ℕ). be4 s j) z ∙ sym (last-of n s at some)
+
     pub arm-inner : Ready s l pen (times m (follow body) s (from (at + 4 * n)))
     arm-inner =
         let e = ap size same-ranges in
-        rw v (record { short = g .short; good = behind .inner; room = omega (arith, g .room); few = omega (arith, g .few) })
+        rw counts (record { short = g .short; good = behind .inner; room = omega (arith, g .room); few = omega (arith, g .few) })
 
-    pub arm-filled : {w : Written} {l′ : List ℕ} → written w l′ ≡ placed pen (times m (follow body) s (from (at + 4 * n))) l → filled (w .next) l′ ≡ fills pen (follow (opened (samples 8) f) s (from at)) l
+    pub arm-filled : {k : ℕ} {l′ : List ℕ} → filled k l′ ≡ fills pen (times m (follow body) s (from (at + 4 * n))) l → filled k l′ ≡ fills pen (follow (opened (samples 8) f) s (from at)) l
     unfolding fills placed
-    arm-filled {w} {l′} e =
-        let a = next-is pen _ l e in
-        let b = store-is pen _ l e in
-        rw same-ranges (rw (← v) (λ h. record { next = a h; store = b h }))
+    arm-filled e = rw same-ranges (rw (← counts) e)
 
-pub raw-filled : (f : ℕ) (s l : List ℕ) (at : ℕ) (pen : Pen) → (f ≡ 1 → ⊥) → (f ≡ 2 → ⊥) → (f ≡ 3 → ⊥) → (f ≡ 4 → ⊥) → (f ≡ 5 → ⊥) → filled (pen .next) l ≡ fills pen (follow (opened (samples 8) f) s (from at)) l
-unfolding opened samples follow ranges-of
-raw-filled f s l at pen a b d e g =
-    bare-filled (follow (opened (samples 8) f) s (from at)) pen l
-    (simp (ne-eqb 1 f (λ z. a (sym z)), ne-eqb 2 f (λ z. b (sym z)), ne-eqb 3 f (λ z. d (sym z)), ne-eqb 4 f (λ z. e (sym z)), ne-eqb 5 f (λ z. g (sym z))))
+pub ruleset arms = (held-flows, held-counters, flows-words, counters-words, kind-some, placed-fills, needs)
+
+pub raw-filled : {r : Kind} (f : ℕ) (s l : List ℕ) (at : ℕ) (pen : Pen) → Is-kind r f → r ≡ kind.Raw → filled (pen .next) l ≡ fills pen (follow (opened (samples 8) f) s (from at)) l
+unfolding follow ranges-of
+raw-filled f s l at pen q e = bare-filled (follow (opened (samples 8) f) s (from at)) pen l (ap (λ (x : Script). ranges-of (follow x s (from at))) (q .is ∙ ap held e))
+
+-- ---- the flow records of a sample: the flat ones, and the others
+module _ {s l : List ℕ} {at n : ℕ} {pen : Pen} {r : Flat} {l′ : List ℕ} (h : Flat-of s l at n pen r l′) where
+  pub flat-ready : Ready s l′ (a-pen (pen .base) (pen .parent) (r .next)) (times (r .rest) (follow (flow 8 8)) s (from (r .at)))
+  flat-ready = h .ready
+
+  pub flat-length : length l′ ≡ length l
+  unfolding placed
+  flat-length = sym (write-length _ _ _) ∙ ap (λ (x : Put). length (x .store)) (h .same) ∙ write-length _ _ _
+
+  pub flat-done : r .rest ≡ 0 → filled (r .next) l′ ≡ fills pen (times n (follow (flow 8 8)) s (from at)) l
+  flat-done z =
+      placed-fills {w = record { at = r .at; next = r .next }} pen (times n (follow (flow 8 8)) s (from at)) l
+      (placing.put-done (flow 8 8) (r .rest) s l′ (r .at) (pen .base) (pen .parent) (r .next) (h .same) (omega arith))
+
+  pub flat-more : {w : Written} {l″ : List ℕ} → written w l″ ≡ placed (a-pen (pen .base) (pen .parent) (r .next)) (times (r .rest) (follow (flow 8 8)) s (from (r .at))) l′ → filled (w .next) l″ ≡ fills pen (times n (follow (flow 8 8)) s (from at)) l
+  flat-more e = placed-fills pen (times n (follow (flow 8 8)) s (from at)) l (e ∙ h .same)
+
+pub ruleset flat = (flat-ready, flat-length, flat-done, flat-more, placing.kept-on, needs)
 
 -- ---- an opaque's length that a counter record skips
 module _ (s l : List ℕ) (at : ℕ) (pen : Pen) (g : Ready s l pen (follow counter s (from at))) where
@@ -100,7 +132,7 @@ module _ (s l : List ℕ) (at : ℕ) (pen : Pen) (g : Ready s l pen (follow coun
   counter-word2 = placing.frame-word2 3 1 (opened []) s l at pen g
 
 pub ruleset writing = (
-  kept-on,
+  placing.kept-on,
   placing.put-kept,
   placing.ready-first,
   placing.ready-next,
@@ -115,6 +147,7 @@ pub ruleset writing = (
   placing.frame-start32,
   placing.frame-end,
   placing.frame-pad,
+  placing.frame-count,
   placing.frame-part,
   placing.frame-inside,
   placing.frame-inner,

@@ -1,19 +1,17 @@
 -- The first pass over samples: a law for each way out of its functions, with the facts that the code has there. Assumes nothing.
-use Prim.Native.Nat.{ℕ, _+_, _*_, _^_, _≤_, _<_}
+use Prim.Native.Nat.{ℕ, zero, suc, _+_, _*_, _-_, _^_, _≤_, _<_}
 use mathlib.Core.Path.{_≡_, refl, sym, ap, _∙_}
-use mathlib.Core.Bool.{true}
 use mathlib.Core.List.{List, []}
 use native.Mathlib.Omega.{arith}
 use borrow.Author.Needs.{needs}
-use borrow.Author.Tests.{leb-true, ne-eqb}
-use lib.Dec.{leb}
 use lib.ListN.{length, take}
 use mir.Syntax.{w64}
 use mir.Val.{Fits}
 use Rattle.reading.specs.Script.{Value, Script, give, repeat}
 use Rattle.reading.specs.Cursor.{Out, got, times, follow}
-use Rattle.reading.specs.Layout.{Field, fields, last-number, opened, framed, counter, samples, sample}
-use Rattle.reading.specs.Answer.{layout-of}
+use Rattle.reading.specs.Bytes.{be4}
+use Rattle.reading.specs.Layout.{Field, fields, words, last-number, opened, framed, flow, counter, samples, sample}
+use Rattle.reading.proofs.Words.{numbers, last-word}
 use Rattle.reading.proofs.Counts.{counted, counted-none, resumed, frame-at, frame-stop, frame-held, fields-stop, each-held}
 use Rattle.reading.proofs.Room.{thrifty-counter, thrifty-sample}
 use Rattle.xdr.specs.declared.Cursor.{Cursor}
@@ -27,11 +25,15 @@ use Rattle.flows.specs.declared.frames.Frame.{Frame}
 use Rattle.flows.specs.declared.frames.Frame.the-variants as frame
 use Rattle.flows.specs.declared.frames.Scanned.{Scanned}
 use Rattle.flows.specs.declared.frames.Scanned.the-variants as scanned
+use Rattle.flows.specs.declared.ahead.Ahead.{Ahead}
 use Rattle.flows.specs.Scanned.{Scan, frame-out, scanned-out}
+use Rattle.flows.specs.Passing.{Ahead-of}
 use Rattle.flows.specs.Chain.{Then, goes, halts, There}
 use Rattle.flows.proofs.Chain.{within-start}
 use Rattle.flows.proofs.Scan.{scan-inside, Thrift, scan-on, scan-done, scan-turn, scan-stop, frame-ends, frame-fits, frame-part, frame-counts, frame-scan}
-use Rattle.samples.specs.Held.{Counted, on, over, Has-last, rest-of}
+use Rattle.samples.specs.declared.fields.Kind.{Kind}
+use Rattle.samples.specs.declared.fields.Kind.the-variants as kind
+use Rattle.samples.specs.Held.{counted-by-last, held, words-of, Is-kind, Counted, on, over, Has-last, rest-of}
 
 pub counter-thrift : Thrift counter
 counter-thrift = record { is = thrifty-counter }
@@ -88,34 +90,64 @@ fields-counted l s c k (goes {e = d} e i) g =
     on {k = k} (record { inside = i .inside; counted = i .counted; few = omega (arith, g .few) })
 fields-counted l s c k (halts e) g = over
 
--- their last word, which counts what follows
-module _ {s : List ℕ} {q : Passed} {at : ℕ} where
-  pub has-last : {n : ℕ} (last : ℕ) → There n s q at → leb (last + 4) (4 * n) ≡ true → Has-last s q at last
-  has-last {n} last t e = record { fits = λ w. omega (arith, t .fits w, leb-true (last + 4) (4 * n) e) }
+-- ---- what a sample holds, by its kind
+pub flows-words : {r : Kind} {n : ℕ} → r ≡ kind.Flows n → words-of r ≡ n
+flows-words e = rw e
 
-  module _ {last : ℕ} {d : Cursor} (h : Has-last s q at last) (e : q ≡ passed.Got d) where
-    pub last-there : at + last + 4 ≤ length s
-    last-there = h .fits (record { cursor = d; is = e })
+pub counters-words : {r : Kind} {n : ℕ} → r ≡ kind.Counters n → words-of r ≡ n
+counters-words e = rw e
 
-    pub last-fits : length s < 2 ^ 64 → Fits w64 (at + last)
-    last-fits l = record { fits = omega (arith, last-there) }
+-- its words, of which the last counts what follows
+module _ {r : Kind} {f : ℕ} (q : Is-kind r f) {n : ℕ} (e : words-of r ≡ n) where
+  pub kind-sub : 4 ≤ 4 * n
+  kind-sub = omega (arith, q .some)
 
--- ---- the arm of a format
-module _ (f : ℕ) (body : Script) (s : List ℕ) (c : Cursor) (k : ℕ) where
-  each : {vs : List Value} {p : Passed} (l : List Field) → Then l s (passed.Got c) p vs → rest-of body s p (last-number vs) k ≡ counted k (follow (fields l (λ us. repeat (last-number us) body (λ a. give a))) s (place c))
+  pub has-last : {s : List ℕ} {p : Passed} {at : ℕ} → There n s p at → Has-last s p at (4 * n - 4)
+  has-last t = record { fits = λ w. omega (arith, t .fits w, q .some) }
+
+module _ {s : List ℕ} {q : Passed} {at last : ℕ} {d : Cursor} (h : Has-last s q at last) (e : q ≡ passed.Got d) where
+  pub last-there : at + last + 4 ≤ length s
+  last-there = h .fits (record { cursor = d; is = e })
+
+  pub last-fits : length s < 2 ^ 64 → Fits w64 (at + last)
+  last-fits l = record { fits = omega (arith, last-there) }
+
+-- the last of n words, where there is one
+pub last-of : (n : ℕ) (s : List ℕ) (at : ℕ) → 1 ≤ n → last-number (numbers n s at) ≡ be4 s (at + (4 * n - 4))
+last-of zero s at h = absurd (omega arith)
+last-of (suc n) s at h = let z : 4 * n ≡ 4 * suc n - 4 = omega arith in last-word n s at ∙ ap (λ (j : ℕ). be4 s (at + j)) z
+
+module _ (f : ℕ) (s : List ℕ) (c : Cursor) (k : ℕ) where
+  each : {vs : List Value} {p : Passed} (body : Script) (l : List Field) → Then l s (passed.Got c) p vs → rest-of body s p (last-number vs) k ≡ counted k (follow (fields l (λ us. repeat (last-number us) body (λ a. give a))) s (place c))
   unfolding rest-of
-  each l (goes e i) = sym (each-held l s (place c) k body e)
-  each l (halts e) = fields-stop l s (place c) k _ e
+  each body l (goes e i) = sym (each-held l s (place c) k body e)
+  each body l (halts e) = fields-stop l s (place c) k _ e
 
-  pub sample-arm : {n m : ℕ} {p : Passed} {vs : List Value} {o : Out ℕ} → Then (layout-of 1 f) s (passed.Got c) p vs → m ≡ f → last-number vs ≡ n → o ≡ rest-of body s p n k
-      → opened (samples 8) f ≡ fields (layout-of 1 f) (λ us. repeat (last-number us) body (λ a. give a)) → o ≡ counted k (follow (opened (samples 8) m) s (place c))
-  sample-arm {p = p} t h z q r =
-      q ∙ ap (λ (n : ℕ). rest-of body s p n k) (sym z) ∙ each (layout-of 1 f) t
-      ∙ ap (λ (x : Script). counted k (follow x s (place c))) (sym r ∙ ap (opened (samples 8)) (sym h))
+  by-last : (n : ℕ) (body : Script) (at : ℕ) {p : Passed} {o : Out ℕ} → opened (samples 8) f ≡ counted-by-last n body → 1 ≤ n → Then (words n) s (passed.Got c) p (numbers n s at) → o ≡ rest-of body s p (be4 s (at + (4 * n - 4))) k
+      → o ≡ counted k (follow (opened (samples 8) f) s (place c))
+  by-last n body at {p} r h t q =
+      q ∙ ap (λ (m : ℕ). rest-of body s p m k) (sym (last-of n s at h)) ∙ each body (words n) t ∙ ap (λ (x : Script). counted k (follow x s (place c))) (sym r)
 
-pub sample-raw : (s : List ℕ) (c : Cursor) (f k : ℕ) → (f ≡ 1 → ⊥) → (f ≡ 2 → ⊥) → (f ≡ 3 → ⊥) → (f ≡ 4 → ⊥) → (f ≡ 5 → ⊥) → got k (place c) ≡ counted k (follow (opened (samples 8) f) s (place c))
-unfolding opened samples follow
-sample-raw s c f k a b d e g = counted-none k (place c) (simp (ne-eqb 1 f (λ z. a (sym z)), ne-eqb 2 f (λ z. b (sym z)), ne-eqb 3 f (λ z. d (sym z)), ne-eqb 4 f (λ z. e (sym z)), ne-eqb 5 f (λ z. g (sym z))))
+  module _ {r : Kind} (q : Is-kind r f) where
+    pub flows-arm : {n : ℕ} (at : ℕ) {p : Passed} {o : Out ℕ} → r ≡ kind.Flows n → Then (words n) s (passed.Got c) p (numbers n s at) → o ≡ rest-of (flow 8 8) s p (be4 s (at + (4 * n - 4))) k → o ≡ counted k (follow (opened (samples 8) f) s (place c))
+    flows-arm {n} at e t i = by-last n (flow 8 8) at (q .is ∙ ap held e) (omega (arith, q .some, ap words-of e)) t i
+
+    pub counters-arm : {n : ℕ} (at : ℕ) {p : Passed} {o : Out ℕ} → r ≡ kind.Counters n → Then (words n) s (passed.Got c) p (numbers n s at) → o ≡ rest-of counter s p (be4 s (at + (4 * n - 4))) k → o ≡ counted k (follow (opened (samples 8) f) s (place c))
+    counters-arm {n} at e t i = by-last n counter at (q .is ∙ ap held e) (omega (arith, q .some, ap words-of e)) t i
+
+    pub raw-arm : r ≡ kind.Raw → got k (place c) ≡ counted k (follow (opened (samples 8) f) s (place c))
+    unfolding follow
+    raw-arm e = counted-none k (place c) (ap (λ (x : Script). follow x s (place c)) (sym (q .is ∙ ap held e)))
+
+-- ---- the flow records behind its words: those passed ahead, and the others
+module _ (s : List ℕ) (k : ℕ) {q : Passed} {d : Cursor} (e : q ≡ passed.Got d) {n m : ℕ} (z : n ≡ m) {a : Ahead} (h : Ahead-of s d n k a) where
+  pub ahead-all : a .rest ≡ 0 → got (a .count) (place (a .cursor)) ≡ rest-of (flow 8 8) s q m k
+  unfolding rest-of
+  ahead-all y = rw (e, ← z) (scan-done (flow 8 8) s (a .cursor) (a .count) (a .rest) (h .same) (omega arith))
+
+  pub ahead-rest : {o : Out ℕ} → o ≡ counted (a .count) (times (a .rest) (follow (flow 8 8)) s (place (a .cursor))) → o ≡ rest-of (flow 8 8) s q m k
+  unfolding rest-of
+  ahead-rest i = rw (e, ← z) (i ∙ h .same)
 
 pub ruleset sampling = (
   scan-inside,
@@ -139,9 +171,17 @@ pub ruleset sampling = (
   behind-last,
   counted-scan,
   fields-counted,
+  flows-words,
+  counters-words,
+  kind-sub,
   has-last,
   last-there,
   last-fits,
+  flows-arm,
+  counters-arm,
+  raw-arm,
+  ahead-all,
+  ahead-rest,
   within-start,
   needs,
 )

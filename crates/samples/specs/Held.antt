@@ -1,9 +1,11 @@
--- What stands behind a sample's fields, in terms of the reading. Assumes nothing.
+-- What a sample holds, in terms of the reading. Assumes nothing.
 use Prim.Native.Nat.{ℕ, _+_, _≤_}
+use mathlib.Core.Path.{_≡_}
 use mathlib.Core.List.{List}
 use lib.ListN.{length}
-use Rattle.reading.specs.Script.{Script}
+use Rattle.reading.specs.Script.{nothing, Script, give, repeat}
 use Rattle.reading.specs.Cursor.{Out, times, follow}
+use Rattle.reading.specs.Layout.{fields, words, last-number, opened, flow, counter, samples}
 use Rattle.reading.proofs.Counts.{counted}
 use Rattle.xdr.specs.declared.Cursor.{Cursor}
 use Rattle.xdr.specs.declared.Outcome.{Outcome}
@@ -12,6 +14,30 @@ use Rattle.xdr.specs.declared.Passed.the-variants as passed
 use Rattle.xdr.specs.Shown.{place, refusal}
 use Rattle.flows.specs.Chain.{Sure}
 use Rattle.flows.specs.Scanned.{Scan}
+use Rattle.samples.specs.declared.fields.Kind.{Kind}
+use Rattle.samples.specs.declared.fields.Kind.the-variants as kind
+
+-- ---- what a sample holds
+
+abbrev pub counted-by-last : ℕ → Script → Script
+counted-by-last n body = fields (words n) (λ us. repeat (last-number us) body (λ a. give a))
+
+abbrev pub held : Kind → Script
+held (kind.Flows n) = counted-by-last n (flow 8 8)
+held (kind.Counters n) = counted-by-last n counter
+held kind.Raw = give nothing
+
+abbrev pub words-of : Kind → ℕ
+words-of (kind.Flows n) = n
+words-of (kind.Counters n) = n
+words-of kind.Raw = 1
+
+pub record Is-kind (r : Kind) (f : ℕ) : Type 0 where
+  pub is : opened (samples 8) f ≡ held r
+  pub some : 1 ≤ words-of r
+  pub few : words-of r ≤ 11
+
+-- ---- what stands behind its words
 
 -- an outcome from which records can be counted on
 pub data Counted (s : List ℕ) : Passed → ℕ → Type 0 where

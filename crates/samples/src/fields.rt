@@ -1,19 +1,38 @@
-// The fields of a sample before its records, a reader for each format. They are one row of words, which is all that the framing needs of
-// them; the last is the count of the records.
+// The fields of a sample before its records: how many words they are, which is all that the framing needs of them, and a reader for each
+// format.
 ghost use mathlib.Core.Path.{_≡_};
 ghost use Rattle.reading.specs.Layout.{words};
 ghost use Rattle.reading.specs.Values.{zeros};
 ghost use Rattle.reading.specs.Answer.{layout-of};
-ghost use Rattle.reading.proofs.Words.{numbers};
 ghost use Rattle.xdr.specs.Shown.{Answers};
-ghost use Rattle.flows.specs.Chain.{Within, Then, There};
+ghost use Rattle.flows.specs.Chain.{Within};
+ghost use Rattle.samples.specs.Held.{Is-kind};
 ghost use Rattle.samples.specs.Shown.{flow-sample, counters-sample, flow-sample-expanded, counters-sample-expanded, discarded-packet};
 use flows::next;
-use flows::next::Run;
 use numbers::DataSource;
 use numbers::Interface;
 use xdr::Outcome;
 use xdr::Passed;
+
+// What a sample holds: so many words, of which the last counts the records behind them; or it stays raw.
+pub enum Kind {
+    Flows(u32),
+    Counters(u32),
+    Raw,
+}
+
+pub fn kind_of(format: u32) -> Kind
+    ensures { λ r. ⌜ Is-kind r format ⌝ }
+{
+    match format {
+        1 => Kind::Flows(8),
+        2 => Kind::Counters(3),
+        3 => Kind::Flows(11),
+        4 => Kind::Counters(4),
+        5 => Kind::Flows(8),
+        _ => Kind::Raw,
+    }
+}
 
 // A source whose type and index have a word each.
 #[repr(C)]
@@ -44,19 +63,11 @@ pub struct FlowSample {
 }
 
 impl FlowSample {
-    pub fn row(p: Passed, s: &[u8]) -> Run
-        requires { ⌜ Within (now s) p ⌝ }
-        ensures { λ r. ⌜ Then (layout-of 1 1) (now (s .entry)) p (r .passed) (numbers 8 (now (s .entry)) (r .at)) ⌝ }
-        ensures { λ r. ⌜ There 8 (now (s .entry)) (r .passed) (r .at) ⌝ }
-    {
-        next::words(p, s, 8)
-    }
-
     pub fn parse(p: Passed, s: &[u8]) -> FlowSample
         requires { ⌜ Within (now s) p ⌝ }
         ensures { λ r. ⌜ Answers (layout-of 1 1) (now (s .entry)) p (r .outcome) (flow-sample r) ⌝ }
     {
-        let row = FlowSample::row(p, s);
+        let row = next::words(p, s, 8);
         let passed = row.passed;
         match passed {
             Passed::Stop(r) => FlowSample {
@@ -98,19 +109,11 @@ pub struct CountersSample {
 }
 
 impl CountersSample {
-    pub fn row(p: Passed, s: &[u8]) -> Run
-        requires { ⌜ Within (now s) p ⌝ }
-        ensures { λ r. ⌜ Then (layout-of 1 2) (now (s .entry)) p (r .passed) (numbers 3 (now (s .entry)) (r .at)) ⌝ }
-        ensures { λ r. ⌜ There 3 (now (s .entry)) (r .passed) (r .at) ⌝ }
-    {
-        next::words(p, s, 3)
-    }
-
     pub fn parse(p: Passed, s: &[u8]) -> CountersSample
         requires { ⌜ Within (now s) p ⌝ }
         ensures { λ r. ⌜ Answers (layout-of 1 2) (now (s .entry)) p (r .outcome) (counters-sample r) ⌝ }
     {
-        let row = CountersSample::row(p, s);
+        let row = next::words(p, s, 3);
         let passed = row.passed;
         match passed {
             Passed::Stop(r) => CountersSample {
@@ -147,14 +150,6 @@ pub struct FlowSampleExpanded {
 }
 
 impl FlowSampleExpanded {
-    pub fn row(p: Passed, s: &[u8]) -> Run
-        requires { ⌜ Within (now s) p ⌝ }
-        ensures { λ r. ⌜ Then (layout-of 1 3) (now (s .entry)) p (r .passed) (numbers 11 (now (s .entry)) (r .at)) ⌝ }
-        ensures { λ r. ⌜ There 11 (now (s .entry)) (r .passed) (r .at) ⌝ }
-    {
-        next::words(p, s, 11)
-    }
-
     fn none(r: Outcome) -> FlowSampleExpanded
         ensures { λ a. ⌜ (a .outcome ≡ r) × (flow-sample-expanded a ≡ zeros (words 11)) ⌝ }
     {
@@ -184,7 +179,7 @@ impl FlowSampleExpanded {
         requires { ⌜ Within (now s) p ⌝ }
         ensures { λ r. ⌜ Answers (layout-of 1 3) (now (s .entry)) p (r .outcome) (flow-sample-expanded r) ⌝ }
     {
-        let row = FlowSampleExpanded::row(p, s);
+        let row = next::words(p, s, 11);
         let passed = row.passed;
         match passed {
             Passed::Stop(r) => FlowSampleExpanded::none(r),
@@ -225,19 +220,11 @@ pub struct CountersSampleExpanded {
 }
 
 impl CountersSampleExpanded {
-    pub fn row(p: Passed, s: &[u8]) -> Run
-        requires { ⌜ Within (now s) p ⌝ }
-        ensures { λ r. ⌜ Then (layout-of 1 4) (now (s .entry)) p (r .passed) (numbers 4 (now (s .entry)) (r .at)) ⌝ }
-        ensures { λ r. ⌜ There 4 (now (s .entry)) (r .passed) (r .at) ⌝ }
-    {
-        next::words(p, s, 4)
-    }
-
     pub fn parse(p: Passed, s: &[u8]) -> CountersSampleExpanded
         requires { ⌜ Within (now s) p ⌝ }
         ensures { λ r. ⌜ Answers (layout-of 1 4) (now (s .entry)) p (r .outcome) (counters-sample-expanded r) ⌝ }
     {
-        let row = CountersSampleExpanded::row(p, s);
+        let row = next::words(p, s, 4);
         let passed = row.passed;
         match passed {
             Passed::Stop(r) => CountersSampleExpanded {
@@ -279,19 +266,11 @@ pub struct DiscardedPacket {
 }
 
 impl DiscardedPacket {
-    pub fn row(p: Passed, s: &[u8]) -> Run
-        requires { ⌜ Within (now s) p ⌝ }
-        ensures { λ r. ⌜ Then (layout-of 1 5) (now (s .entry)) p (r .passed) (numbers 8 (now (s .entry)) (r .at)) ⌝ }
-        ensures { λ r. ⌜ There 8 (now (s .entry)) (r .passed) (r .at) ⌝ }
-    {
-        next::words(p, s, 8)
-    }
-
     pub fn parse(p: Passed, s: &[u8]) -> DiscardedPacket
         requires { ⌜ Within (now s) p ⌝ }
         ensures { λ r. ⌜ Answers (layout-of 1 5) (now (s .entry)) p (r .outcome) (discarded-packet r) ⌝ }
     {
-        let row = DiscardedPacket::row(p, s);
+        let row = next::words(p, s, 8);
         let passed = row.passed;
         match passed {
             Passed::Stop(r) => DiscardedPacket {

@@ -3,13 +3,16 @@ ghost use mathlib.Core.Path.{_≡_};
 ghost use Prim.Native.Nat.{_≤_};
 ghost use lib.ListN.{length};
 ghost use Rattle.reading.specs.Cursor.{times, follow};
-ghost use Rattle.reading.specs.Layout.{opened, counter, samples, sample};
+ghost use Rattle.reading.specs.Layout.{opened, flow, counter, samples, sample};
 ghost use Rattle.reading.specs.Answer.{from};
 ghost use Rattle.flows.specs.Written.{Ready, written, placed, filled, fills};
+use crate::fields::Kind;
+use crate::fields::kind_of;
 use flows::put::Descriptor;
 use flows::put::Pen;
 use flows::put::Written;
 use flows::put::put;
+use flows::put::put_flat_records;
 use flows::put::put_flow_records;
 use numbers::DataFormat;
 use xdr::load;
@@ -37,7 +40,7 @@ fn put_counter_record(s: &[u8], at: usize, store: &mut [u32], pen: Pen) -> Writt
         },
     );
     Written {
-        at: start + count + (4 - count % 4) % 4,
+        at: start + load::padded(count),
         next: i + 1,
     }
 }
@@ -73,39 +76,52 @@ fn put_counter_records(s: &[u8], at: usize, n: u32, store: &mut [u32], pen: Pen)
     }
 }
 
-// What a sample of this format holds: where its records begin, and where their count stands, go by the format.
+// n flow records of a sample: the flat ones first, then, where there is an aggregation among them, the others.
+fn put_sample_flows(s: &[u8], at: usize, n: u32, store: &mut [u32], pen: Pen) -> usize
+    requires { ⌜ Ready (now s) (now store) pen (times n (follow (flow 8 8)) (now s) (from at)) ⌝ }
+    ensures { λ r. ⌜ filled r (now (store .exit)) ≡ fills pen (times n (follow (flow 8 8)) (now (s .entry)) (from at)) (now (store .entry)) ⌝ }
+{
+    let base = pen.base;
+    let parent = pen.parent;
+    let flat = put_flat_records(s, at, n, &mut *store, pen);
+    let next = flat.next;
+    if flat.rest == 0 {
+        return next;
+    }
+    let w = put_flow_records(
+        s,
+        flat.at,
+        flat.rest,
+        8,
+        store,
+        Pen {
+            base: base,
+            parent: parent,
+            next: next,
+        },
+    );
+    w.next
+}
+
+// What a sample of this format holds.
 fn put_sample_data(s: &[u8], at: usize, format: u32, store: &mut [u32], pen: Pen) -> usize
     requires { ⌜ at ≤ length (now s) ⌝ }
     requires { ⌜ Ready (now s) (now store) pen (follow (opened (samples 8) format) (now s) (from at)) ⌝ }
     ensures { λ r. ⌜ filled r (now (store .exit)) ≡ fills pen (follow (opened (samples 8) format) (now (s .entry)) (from at)) (now (store .entry)) ⌝ }
 {
-    match format {
-        1 => {
-            let n = load::be32(s, at + 28);
-            let w = put_flow_records(s, at + 32, n, 8, store, pen);
+    match kind_of(format) {
+        Kind::Flows(k) => {
+            let first = at + 4 * (k as usize);
+            let n = load::be32(s, first - 4);
+            put_sample_flows(s, first, n, store, pen)
+        }
+        Kind::Counters(k) => {
+            let first = at + 4 * (k as usize);
+            let n = load::be32(s, first - 4);
+            let w = put_counter_records(s, first, n, store, pen);
             w.next
         }
-        2 => {
-            let n = load::be32(s, at + 8);
-            let w = put_counter_records(s, at + 12, n, store, pen);
-            w.next
-        }
-        3 => {
-            let n = load::be32(s, at + 40);
-            let w = put_flow_records(s, at + 44, n, 8, store, pen);
-            w.next
-        }
-        4 => {
-            let n = load::be32(s, at + 12);
-            let w = put_counter_records(s, at + 16, n, store, pen);
-            w.next
-        }
-        5 => {
-            let n = load::be32(s, at + 28);
-            let w = put_flow_records(s, at + 32, n, 8, store, pen);
-            w.next
-        }
-        _ => pen.next,
+        Kind::Raw => pen.next,
     }
 }
 
@@ -146,7 +162,7 @@ fn put_sample(s: &[u8], at: usize, store: &mut [u32], pen: Pen) -> Written
         },
     );
     Written {
-        at: end + (4 - count % 4) % 4,
+        at: start + load::padded(count),
         next: next,
     }
 }

@@ -9,13 +9,12 @@ ghost use Rattle.xdr.specs.Shown.{place};
 ghost use Rattle.flows.specs.Scanned.{Scan, scanned-out};
 ghost use Rattle.flows.specs.Chain.{Within};
 ghost use Rattle.samples.specs.Held.{Counted, Has-last, rest-of};
-use crate::fields::CountersSample;
-use crate::fields::CountersSampleExpanded;
-use crate::fields::DiscardedPacket;
-use crate::fields::FlowSample;
-use crate::fields::FlowSampleExpanded;
+use crate::fields::Kind;
+use crate::fields::kind_of;
+use flows::ahead;
 use flows::frames::Frame;
 use flows::frames::Scanned;
+use flows::next;
 use flows::next::Run;
 use flows::records;
 use xdr::Cursor;
@@ -67,7 +66,12 @@ fn flows_behind(s: &[u8], row: Run, last: usize, count: usize) -> Scanned
         Passed::Stop(r) => Scanned::Stop(r),
         Passed::Got(d) => {
             let n = load::be32(s, row.at + last);
-            records::flow_records(s, d, n, 8, count)
+            let a = ahead::pass_ahead(s, d, n, count);
+            let cur = a.cursor;
+            if a.rest == 0 {
+                return Scanned::Got(cur, a.count);
+            }
+            records::flow_records(s, cur, a.rest, 8, a.count)
         }
     }
 }
@@ -93,14 +97,16 @@ fn sample_data(s: &[u8], c: Cursor, format: u32, count: usize) -> Scanned
     requires { ⌜ Scan (now s) c count ⌝ }
     ensures { λ r. ⌜ scanned-out r ≡ counted count (follow (opened (samples 8) format) (now (s .entry)) (place c)) ⌝ }
 {
-    let p = Passed::Got(c);
-    match format {
-        1 => flows_behind(s, FlowSample::row(p, s), 28, count),
-        2 => counters_behind(s, CountersSample::row(p, s), 8, count),
-        3 => flows_behind(s, FlowSampleExpanded::row(p, s), 40, count),
-        4 => counters_behind(s, CountersSampleExpanded::row(p, s), 12, count),
-        5 => flows_behind(s, DiscardedPacket::row(p, s), 28, count),
-        _ => Scanned::Got(c, count),
+    match kind_of(format) {
+        Kind::Flows(n) => {
+            let row = next::words(Passed::Got(c), s, n);
+            flows_behind(s, row, 4 * (n as usize) - 4, count)
+        }
+        Kind::Counters(n) => {
+            let row = next::words(Passed::Got(c), s, n);
+            counters_behind(s, row, 4 * (n as usize) - 4, count)
+        }
+        Kind::Raw => Scanned::Got(c, count),
     }
 }
 

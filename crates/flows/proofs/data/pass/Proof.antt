@@ -10,8 +10,7 @@ unfolding layout-of opened flows
 pass-spec =
     tie.close
     (tie.spec
-    (λ c κs. search steps)  -- parse-requires
-    (λ c κs. search steps)  -- passed-requires
+    (λ c κs. search steps)  -- row-requires-1
     (λ c κs. search steps)  -- parse-requires-2
     (λ c κs. search steps)  -- passed-requires-2
     (λ c κs. search steps)  -- row-requires
@@ -45,7 +44,7 @@ pass-spec =
     (λ c κs. search steps)  -- passed-requires-15
     (λ c κs. search steps)  -- parse-requires-16
     (λ c κs. search steps)  -- passed-requires-16
-    (λ c. search (arm 1))  -- returns
+    (λ c. search (row-arm 1))  -- returns
     (λ c. search (arm 2))  -- returns-2
     (λ c. search (row-arm 3))  -- returns-3
     (λ c. search (arm 4))  -- returns-4

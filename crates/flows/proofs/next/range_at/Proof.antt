@@ -6,18 +6,14 @@ pub range-at-spec : {M : Type 1} → statement M
 range-at-spec =
     tie.close
     (tie.spec
-    (λ c. search items)  -- enum-told
-    (λ c κs. search items)  -- read-opaque-requires
-    (λ c κs. search items)  -- of-part-requires
-    (λ c. search items)  -- enum-told-2
-    (λ c κs. search items)  -- read-string-requires
-    (λ c κs. search items)  -- of-part-requires-2
-    (λ c. search items)  -- enum-told-3
-    (λ c κs. search items)  -- list-requires
-    (λ c. search items)  -- enum-told-4
-    (λ c κs. search items)  -- segments-requires
-    (λ c. search items)  -- returns
-    (λ c. search items)  -- returns-2
-    (λ c. search items)  -- returns-3
-    (λ c. search items)  -- returns-4
+    (λ c. search items)  -- enum-told next.rt:250:31
+    (λ c κs. search items)  -- read-string-requires next.rt:250:31
+    (λ c κs. search items)  -- of-part-requires next.rt:250:23
+    (λ c. search items)  -- enum-told-2 next.rt:251:23
+    (λ c κs. search items)  -- list-requires next.rt:251:23
+    (λ c. search items)  -- enum-told-3 next.rt:252:27
+    (λ c κs. search items)  -- segments-requires next.rt:252:27
+    (λ c. search items)  -- returns next.rt:245:1
+    (λ c. search items)  -- returns-2 next.rt:245:1
+    (λ c. search items)  -- returns-3 next.rt:245:1
     )

@@ -28,6 +28,7 @@ use Rattle.flows.proofs.put.put_pdus.Kinds as put-pdus-kinds
 use Rattle.flows.proofs.put.+put_flow_data+put_flow_record+put_flow_records+put_pdu+put_pdus.Lts-put_pdus as put-pdus-lts
 use Rattle.flows.proofs.put.put.Reads as put-reads
 use Rattle.xdr.proofs.load.be32.Reads as be32-reads
+use Rattle.xdr.proofs.load.padded.Reads as padded-reads
 use Rattle.flows.proofs.put.+put_flow_data+put_flow_record+put_flow_records+put_pdu+put_pdus.{
   statement,
 }
@@ -156,6 +157,7 @@ ruleset putting = (
   placing.record-start32,
   placing.record-end,
   placing.record-pad,
+  placing.record-count,
   placing.record-part,
   placing.record-inside,
   placing.record-inner,
@@ -196,6 +198,8 @@ pub +put-flow-data+put-flow-record+put-flow-records+put-pdu+put-pdus-spec :
       put-flow-data.Post,
       put-reads.Asked,
       put-reads.Learnt,
+      padded-reads.Asked,
+      padded-reads.Learnt,
     )
     (put-flow-record-at t)
     put-flow-record.Post
@@ -215,8 +219,8 @@ pub +put-flow-data+put-flow-record+put-flow-records+put-pdu+put-pdus-spec :
     (λ c. search putting)  -- put-flow-record-sub-t15 put.rt:125:21
     (λ c. search putting)  -- put-flow-record-cast-t26 put.rt:125:20
     (λ c κs. search putting)  -- put-flow-record-put-requires put.rt:116:5
-    (λ c. search putting)  -- put-flow-record-sub-t15-2 put.rt:129:20
-    (λ c. search putting)  -- put-flow-record-add-t29 put.rt:129:13
+    (λ c κs. search putting)  -- put-flow-record-padded-requires
+    (λ c. search putting)  -- put-flow-record-add-t27
     (λ c. search putting)  -- put-flow-record-same-length put.rt:91:1
     (λ c. search putting)  -- put-flow-record-returns put.rt:91:1
     )

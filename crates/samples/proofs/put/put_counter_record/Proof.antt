@@ -13,9 +13,8 @@ put-counter-record-spec =
     (λ c. search writing)  -- add-start put.rt:24:17
     (λ c. search writing)  -- cast-t14 put.rt:32:20
     (λ c κs. search writing)  -- put-requires put.rt:26:5
-    (λ c. search writing)  -- add-t10 put.rt:39:13
-    (λ c. search writing)  -- sub-t17 put.rt:39:30
-    (λ c. search writing)  -- add-t19 put.rt:39:13
+    (λ c κs. search writing)  -- padded-requires
+    (λ c. search writing)  -- add-t17
     (λ c. search writing)  -- add-t20 put.rt:40:15
     (λ c. search writing)  -- same-length put.rt:17:1
     (λ c. search writing)  -- returns put.rt:17:1

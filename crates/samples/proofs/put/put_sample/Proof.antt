@@ -21,8 +21,8 @@ put-sample-spec =
     (λ c κs. search (frames.frame-inner 1 0 (opened (samples 8)), writing))  -- put-sample-data-requires put.rt:124:9
     (λ c. search writing)  -- cast-t15 put.rt:141:20
     (λ c κs. search (frames.frame-own 1 0 (opened (samples 8)), writing))  -- put-requires put.rt:135:5
-    (λ c. search writing)  -- sub-t25 put.rt:148:20
-    (λ c. search writing)  -- add-t27 put.rt:148:13
+    (λ c κs. search writing)  -- padded-requires
+    (λ c. search writing)  -- add-t25
     (λ c. search (frames.frame-kept 1 0 (opened (samples 8)), writing))  -- same-length put.rt:112:1
     (λ c. search (frames.frame-placed 1 0 (opened (samples 8)), writing))  -- returns put.rt:112:1
     )

@@ -1,0 +1,78 @@
+-- Records passed ahead of the full reading: a law for each way out of its functions, with the facts that the code has there. Assumes nothing.
+use Prim.Native.Nat.{ℕ, _+_, _-_, _^_, _≤_, _<_}
+use mathlib.Core.Path.{_≡_, refl}
+use mathlib.Core.Bool.{true}
+use mathlib.Core.List.{List}
+use native.Mathlib.Omega.{arith}
+use borrow.Author.Needs.{needs}
+use borrow.Author.Tests.{leb-true}
+use lib.Dec.{leb}
+use lib.ListN.{length, take}
+use mir.Syntax.{w64}
+use mir.Val.{Fits}
+use Rattle.reading.specs.Script.{Value, give, nothing}
+use Rattle.reading.specs.Cursor.{Out, times, follow}
+use Rattle.reading.specs.Layout.{fields, opened, flows, flow}
+use Rattle.reading.specs.Answer.{layout-of}
+use Rattle.reading.proofs.Counts.{counted, frame-at}
+use Rattle.xdr.specs.declared.Cursor.{Cursor}
+use Rattle.xdr.specs.declared.Outcome.{Outcome}
+use Rattle.xdr.specs.declared.Span.{Span}
+use Rattle.xdr.specs.declared.Passed.{Passed}
+use Rattle.xdr.specs.declared.Passed.the-variants as passed
+use Rattle.xdr.specs.Shown.{place, Inside, passed-out}
+use Rattle.flows.specs.declared.frames.Frame.{Frame}
+use Rattle.flows.specs.declared.frames.Frame.the-variants as frame
+use Rattle.flows.specs.declared.frames.Scanned.the-variants as scanned
+use Rattle.flows.specs.Scanned.{Scan, frame-out}
+use Rattle.flows.specs.Chain.{Then}
+use Rattle.flows.specs.Passing.{Passes, Passes-record}
+use Rattle.flows.proofs.Chain.{unsure}
+use Rattle.flows.proofs.Formats.{row-arm}
+use Rattle.flows.proofs.Scan.{scan-inside, scan-on, scan-turn, flow-thrift, frame-ends, frame-fits, frame-part, frame-scan, record-got, data-got}
+
+-- ---- a payload
+module _ (k : ℕ) (s : List ℕ) (c : Cursor) (f : ℕ) where
+  pub passes-arm : {p : Passed} {vs : List Value} → Then (layout-of 2 k) s (passed.Got c) p vs → f ≡ k → opened (flows (give nothing)) k ≡ fields (layout-of 2 k) (λ _. give nothing)
+      → leb (k + 1) 1016 ≡ true → Passes s c f p
+  passes-arm {p} t h r b =
+      let e : passed-out p nothing ≡ follow (opened (flows (give nothing)) f) s (place c) = row-arm k s c f t h r in
+      record { flat = λ _ z. absurd (omega (arith, leb-true (k + 1) 1016 b)); is = λ w. rw w at e }
+
+pub passes-none : {s : List ℕ} {c : Cursor} {f : ℕ} {x : Outcome} → Passes s c f (passed.Stop x)
+passes-none = record { flat = λ w. unsure w; is = λ w. unsure w }
+
+-- ---- a record, by its frame
+pub record-none : {s : List ℕ} {c : Cursor} {x : Outcome} → Passes-record s c (passed.Stop x)
+record-none = record { is = λ w. unsure w }
+
+module _ (s : List ℕ) (c : Cursor) {r : Frame} (e : frame-out r ≡ frame-at s (place c)) {f : ℕ} {x : Span} {d : Cursor} (h : r ≡ frame.Got f x d) where
+  pub frame-within : (m : ℕ) → m ≤ length s → x .start + x .count ≤ m → Inside s c → Inside (take m s) (record { at = x .start; steps = d .steps })
+  frame-within m i j g =
+      let k : Scan s c 0 = record { inside = g .inside; counted = g .counted; few = omega arith } in
+      scan-inside (frame-scan s c e h m i 0 j k)
+
+  pub record-passed : {q : Passed} {u : Cursor} → Passes (take (x .start + x .count) s) (record { at = x .start; steps = d .steps }) f q → q ≡ passed.Got u
+      → Passes-record s c (passed.Got (record { at = d .at; steps = u .steps }))
+  record-passed {q} {u} p w = record { is = λ y k. rw (← same y) (read k) }
+    where
+      same : {v : Cursor} → passed.Got (record { at = d .at; steps = u .steps }) ≡ passed.Got v → record { at = d .at; steps = u .steps } ≡ v
+      same y = cc
+
+      read : (k : ℕ) → Rattle.reading.specs.Cursor.got (k + 1) (place (record { at = d .at; steps = u .steps })) ≡ counted k (follow (flow 8 8) s (place c))
+      read k =
+          record-got 8 s c k e (λ z. absurd (omega arith)) h {m = scanned.Got u (k + 1)}
+          (data-got (8 - 1) f (take (x .start + x .count) s) (record { at = x .start; steps = d .steps }) (k + 1) (p .flat w) {r = passed.Got u} (p .is w) refl) refl
+
+-- ---- so many in a row
+module _ (s : List ℕ) (c : Cursor) (k : ℕ) {r : Passed} {d : Cursor} (p : Passes-record s c r) (w : r ≡ passed.Got d) where
+  pub ahead-scan : Scan s c k → Scan s d (k + 1)
+  ahead-scan g = scan-on (flow 8 8) s c k {m = scanned.Got d (k + 1)} (p .is w k) refl g (flow-thrift 8 8)
+
+  pub ahead-fits : Scan s c k → length s < 2 ^ 64 → Fits w64 (k + 1)
+  ahead-fits g l = let j = ahead-scan g in record { fits = omega (arith, j .few, j .inside) }
+
+  pub ahead-turn : (n : ℕ) {t : Out ℕ} → counted k (times n (follow (flow 8 8)) s (place c)) ≡ t → 0 < n → counted (k + 1) (times (n - 1) (follow (flow 8 8)) s (place d)) ≡ t
+  ahead-turn n h z = scan-turn (flow 8 8) s c k n {m = scanned.Got d (k + 1)} (p .is w k) refl h z
+
+pub ruleset passing = (scan-inside, frame-ends, frame-fits, frame-part, frame-within, record-none, record-passed, ahead-scan, ahead-fits, ahead-turn, needs)
