@@ -174,4 +174,4 @@ module _ (s l : List ℕ) (at base : ℕ) (g : Ready s l (root base) (follow dat
             ∙ ap (λ (u : Forest). write l (6 * 0) (rows (base + 0) nobody u)) t in
             λ j. record { at = a j; next = b j; store = z j }
 
-pub ruleset judging = (within-start, scan-inside, behind-cut, behind-got, counted-scan, one-counts, header-counted, judged-all, header-there, samples-ready, start32, end-forward, length32, own-room, datagram-kept, datagram-placed, needs)
+pub ruleset judging = (within-start, scan-inside, behind-cut, behind-got, counted-scan, one-counts, header-counted, judged-all, header-there, samples-ready, start32, end-forward, length32, own-room, datagram-kept, datagram-placed, put-kept, needs)

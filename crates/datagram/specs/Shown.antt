@@ -28,6 +28,10 @@ pub record Is-judged (s : List ℕ) (c : Cursor) (k : ℕ) (r : Judged) : Type 0
   pub outcome : scanned-out (r .scanned) ≡ counted k (follow datagram s (place c))
   pub head : Answers header s (passed.Got c) (r .header .outcome) (header-fields (r .header))
 
+-- the header of the datagram at a place
+pub record Has-header (s : List ℕ) (at : ℕ) (h : Header) : Type 0 where
+  pub read : Answers header s (passed.Got (record { at = at; steps = 0 })) (h .outcome) (header-fields h)
+
 -- where a datagram's own descriptor goes: it has no parent
 abbrev pub root : ℕ → Pen
 root base = record { base = base; parent = nobody; next = 0 }

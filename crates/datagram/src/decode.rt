@@ -4,7 +4,7 @@ ghost use Rattle.reading.specs.Answer.{one};
 ghost use Rattle.datagram.specs.Shown.{decoded, Refuses};
 use crate::header::Header;
 use crate::one::judge;
-use crate::one::put_datagram;
+use crate::one::put_behind;
 use flows::frames::Scanned;
 use xdr::Address;
 use xdr::Cursor;
@@ -69,7 +69,7 @@ pub fn decode(s: &[u8], store: &mut [u32]) -> Decoded
                 return Decoded::refused(9, 0, e.steps, k);
             }
             let agent_address = header.agent_address;
-            put_datagram(s, 0, store, 0);
+            put_behind(s, 0, header, store, 0);
             Decoded {
                 answer: Answer {
                     code: 0,

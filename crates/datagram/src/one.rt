@@ -9,7 +9,7 @@ ghost use Rattle.xdr.specs.Shown.{place};
 ghost use Rattle.flows.specs.Scanned.{Scan, scanned-out};
 ghost use Rattle.flows.specs.Written.{Ready, written, placed};
 ghost use Rattle.samples.specs.Held.{Counted, rest-of};
-ghost use Rattle.datagram.specs.Shown.{Is-judged, root};
+ghost use Rattle.datagram.specs.Shown.{Is-judged, Has-header, root};
 use crate::header::Header;
 use flows::frames::Scanned;
 use flows::put::Descriptor;
@@ -52,13 +52,14 @@ pub fn judge(s: &[u8], c: Cursor, count: usize) -> Judged
     }
 }
 
-// The second pass: the datagram at `at`, whose descriptors have the indices from `base` on, written from the store's first word on.
-pub fn put_datagram(s: &[u8], at: usize, store: &mut [u32], base: u32) -> Written
+// The second pass: the datagram at `at`, whose header was read, and whose descriptors have the indices from `base` on, written from the
+// store's first word on.
+pub fn put_behind(s: &[u8], at: usize, header: Header, store: &mut [u32], base: u32) -> Written
     requires { ⌜ at ≤ length (now s) ⌝ }
+    requires { ⌜ Has-header (now s) at header ⌝ }
     requires { ⌜ Ready (now s) (now store) (root base) (follow datagram (now s) (from at)) ⌝ }
     ensures { λ r. ⌜ written r (now (store .exit)) ≡ placed (root base) (follow datagram (now (s .entry)) (from at)) (now (store .entry)) ⌝ }
 {
-    let header = Header::parse(Passed::Got(Cursor { at: at, steps: 0 }), s);
     let outcome = header.outcome;
     let n = header.num_samples;
     match outcome.passed() {
@@ -91,4 +92,14 @@ pub fn put_datagram(s: &[u8], at: usize, store: &mut [u32], base: u32) -> Writte
             w
         }
     }
+}
+
+// The same, with the header read once more.
+pub fn put_datagram(s: &[u8], at: usize, store: &mut [u32], base: u32) -> Written
+    requires { ⌜ at ≤ length (now s) ⌝ }
+    requires { ⌜ Ready (now s) (now store) (root base) (follow datagram (now s) (from at)) ⌝ }
+    ensures { λ r. ⌜ written r (now (store .exit)) ≡ placed (root base) (follow datagram (now (s .entry)) (from at)) (now (store .entry)) ⌝ }
+{
+    let header = Header::parse(Passed::Got(Cursor { at: at, steps: 0 }), s);
+    put_behind(s, at, header, store, base)
 }

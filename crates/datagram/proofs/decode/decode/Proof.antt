@@ -14,7 +14,7 @@ decode-spec =
     (λ c. search deciding)  -- enum-known-scanned-2 decode.rt:65:22
     (λ c κs. search deciding)  -- refused-requires-3 decode.rt:67:17
     (λ c. search deciding)  -- returns-2 decode.rt:67:17
-    (λ c κs. search deciding)  -- put-datagram-requires decode.rt:70:13
+    (λ c κs. search deciding)  -- put-behind-requires decode.rt:70:13
     (λ c. search deciding)  -- returns-3 decode.rt:54:1
     (λ c. search deciding)  -- same-length decode.rt:54:1
     (λ c. search deciding)  -- returns-4 decode.rt:54:1

@@ -9,15 +9,7 @@ put-datagram-spec =
     tie.close
     (tie.spec
     (λ c κs. search judging)  -- parse-requires
-    (λ c κs. search judging)  -- passed-requires
-    (λ c. search judging)  -- enum-told
-    (λ c. search judging)  -- enum-known-d
-    (λ c κs. search judging)  -- put-samples-requires
-    (λ c. search judging)  -- cast-t19
-    (λ c. search judging)  -- sub-t20
-    (λ c. search judging)  -- cast-t21
-    (λ c κs. search judging)  -- put-requires
-    (λ c. search judging)  -- returns
+    (λ c κs. search judging)  -- put-behind-requires
     (λ c. search judging)  -- same-length
-    (λ c. search judging)  -- returns-2
+    (λ c. search judging)  -- returns
     )
