@@ -35,11 +35,7 @@ use Rattle.xdr.proofs.Rows.{reads-inside, words-inside}
 use Rattle.flows.specs.declared.lists.Ranged.{Ranged}
 use Rattle.flows.specs.declared.next.Kind.{Kind}
 use Rattle.flows.specs.declared.next.Kind.the-variants as kind
-use Rattle.flows.specs.Chain.{Within, inside, over, Then, goes, halts, stays, Sure, There, Has-words, loaded-from, loaded, word-of, field-of, no-range, range-of}
-
--- the fields l, read on from p, end so, whatever they give
-pub data Ends (l : List Field) (s : List ℕ) (p q : Passed) : Type 0 where
-  ends : {vs : List Value} → Then l s p q vs → Ends l s p q
+use Rattle.flows.specs.Chain.{Within, inside, over, Then, goes, halts, stays, Ends, ends, Sure, There, Has-words, loaded-from, loaded, word-of, field-of, no-range, range-of}
 
 joined : {A : Type 0} {l k : List A} (n : ℕ) → take n k ≡ l → l ++ drop n k ≡ k
 joined {A} {l} {k} n e = ap (λ (h : List A). h ++ drop n k) (sym e) ∙ take-append-drop n k
@@ -74,6 +70,13 @@ module _ {s : List ℕ} where
 
     pub ends-on : Ends (drop (length l) k) s q r → Ends k s p r
     ends-on (ends u) = rw (← joined (length l) e) (ends (both t u))
+
+  -- a row that is passed, field by field
+  pub within-ends : {l : List Field} {p q : Passed} → Ends l s p q → Within s q
+  within-ends (ends t) = within-then t
+
+  pub row-on : {l k : List Field} {p q r : Passed} → Ends l s p q → take (length l) k ≡ l → Ends (drop (length l) k) s q r → Ends k s p r
+  row-on (ends t) e u = ends-on t e u
 
   pub then-is : {l : List Field} {p q : Passed} {vs us : List Value} → Then l s p q vs → us ≡ vs → Then l s p q us
   then-is t e = rw e t
@@ -184,9 +187,6 @@ sure-back (goes {d} a i) w = record { cursor = d; is = refl }
 sure-back (halts a) w = unsure (w .is)
 sure-back stays w = w
 
-pub there-on : {n : ℕ} {l : List Field} {s : List ℕ} {q r : Passed} {at : ℕ} {vs : List Value} → There n s q at → Then l s q r vs → There n s r at
-there-on t u = record { fits = λ w. t .fits (sure-back u w) }
-
 pub row-few : {q : Passed} {n : ℕ} {s : List ℕ} {at : ℕ} → There n s q at → Sure q → n ≤ 11 → Has-words n s at
 row-few t w l = record { few = l; fits = t .fits w }
 
@@ -236,10 +236,6 @@ module _ (s : List ℕ) (at : ℕ) where
       each (suc (suc (suc (suc (suc (suc (suc (suc (suc zero))))))))) k = e9 ∙ has 9 k
       each (suc (suc (suc (suc (suc (suc (suc (suc (suc (suc zero)))))))))) k = e10 ∙ has 10 k
       each (suc (suc (suc (suc (suc (suc (suc (suc (suc (suc (suc m))))))))))) k = absurd (omega (arith, k, l))
-
--- two of them, between other values
-pub two-loaded : (w s : List ℕ) (at : ℕ) (a : Value) (b : List Value) → loaded 2 w ≡ numbers 2 s at → a ∷ loaded 2 w ++ b ≡ a ∷ numbers 2 s at ++ b
-two-loaded w s at a b e = ap (λ (l : List Value). a ∷ l ++ b) e
 
 -- one of them
 module _ (s : List ℕ) (at n i : ℕ) where
@@ -292,34 +288,16 @@ range-got e = rw e
 pub range-stop : {o : Part} {x : Outcome} → o ≡ a-part.Stop x → no-range x ≡ range-of o
 range-stop e = rw e
 
--- an opaque, by its part
-pub then-opaque : (s : List ℕ) {p : Passed} (c : Cursor) (o : Part) {r : Ranged} → p ≡ passed.Got c → Inside s c → part-out o ≡ read-item opaque s (place c) → r ≡ range-of o → Then (plain opaque ∷ []) s p (r .passed) (part (span (r .span)) ∷ [])
-then-opaque s c o h i e q = rw (h, q) (go o e)
+-- an opaque or a string, by its part
+pub then-part : (s : List ℕ) {p : Passed} (c : Cursor) (i : Item) (o : Part) {r : Ranged} → p ≡ passed.Got c → Inside s c → part-out o ≡ read-item i s (place c) → r ≡ range-of o → Then (plain i ∷ []) s p (r .passed) (part (span (r .span)) ∷ [])
+then-part s c i o h j e q = rw (h, q) (go o e)
   where
-    go : (o : Part) → part-out o ≡ read-item opaque s (place c) → Then (plain opaque ∷ []) s (passed.Got c) (range-of o .passed) (part (span (range-of o .span)) ∷ [])
-    go (a-part.Got x d) e = item-goes opaque s c i e
-    go (a-part.Stop x) e = item-halts opaque s c e
+    go : (o : Part) → part-out o ≡ read-item i s (place c) → Then (plain i ∷ []) s (passed.Got c) (range-of o .passed) (part (span (range-of o .span)) ∷ [])
+    go (a-part.Got x d) e = item-goes i s c j e
+    go (a-part.Stop x) e = item-halts i s c e
 
 pub range-arm : {k j : Kind} {s : List ℕ} {c : Cursor} {q : Passed} {vs : List Value} → k ≡ j → Reads (field-of j ∷ []) s c q vs → Reads (field-of k ∷ []) s c q vs
 range-arm e r = rw e r
-
-pub data Part-of : Kind → Item → Type 0 where
-  is-text : Part-of kind.Text string
-
-module _ (s : List ℕ) (c : Cursor) where
-  pub range-part : {k j : Kind} {i : Item} (o : Part) {r : Ranged} → k ≡ j → part-out o ≡ read-item i s (place c) → Part-of j i → r ≡ range-of o → Reads (field-of k ∷ []) s c (r .passed) (part (span (r .span)) ∷ [])
-  unfolding field-out
-  range-part o h e y q = rw (h, q) (go o e y)
-    where
-      item-read : {v : Value} {d : Cursor} (i : Item) → got v (place d) ≡ read-item i s (place c) → Reads (plain i ∷ []) s c (passed.Got d) (v ∷ [])
-      item-read i e = record { is = reads-shown (plain i ∷ []) s (place c) (sole-gives (plain i) s (place c) (sym e)) }
-
-      item-cut : {x : Outcome} (i : Item) → refusal x ≡ read-item i s (place c) → Reads (plain i ∷ []) s c (passed.Stop x) (zeros (plain i ∷ []))
-      item-cut i e = record { is = halts-shown (plain i ∷ []) s (place c) (sole-halts (plain i) s (place c) (sym e)) }
-
-      go : {j : Kind} {i : Item} (o : Part) → part-out o ≡ read-item i s (place c) → Part-of j i → Reads (field-of j ∷ []) s c (range-of o .passed) (part (span (range-of o .span)) ∷ [])
-      go (a-part.Got x d) e is-text = item-read string e
-      go (a-part.Stop x) e is-text = item-cut string e
 
 -- for the readers: where the next item begins, and what all the items make
 pub ruleset steps = (within-start, within-then, needs)
@@ -327,9 +305,12 @@ pub ruleset steps = (within-start, within-then, needs)
 -- for the words of a row
 pub ruleset places = (row-held, row-few, sure-got, sure-back, needs)
 
-pub ruleset parts = (then-got, then-stop, then-on, then-is, there-on, ends, ends-on)
+pub ruleset parts = (then-got, then-stop, then-on, then-is, ends, ends-on)
 
 pub ruleset rows = (all-read, all-refused, then-on, then-is, ends, ends-on)
 
+-- for a row that is passed
+pub ruleset passing = (within-start, within-ends, row-on, ends, needs)
+
 -- for the items themselves
-pub ruleset items = (within-got, handed-on, from-there, then-reads, then-word, no-word, then-long, no-long, then-sixteen, then-six, range-got, range-stop, then-opaque, is-text, range-part, range-arm, then-row, row-there, row-none, load-each, load-word, load-zero, needs)
+pub ruleset items = (within-got, handed-on, from-there, then-reads, then-word, no-word, then-long, no-long, then-sixteen, then-six, range-got, range-stop, then-part, range-arm, then-row, row-there, row-none, load-each, load-word, load-zero, needs)

@@ -10,7 +10,7 @@ use lib.Dec.{leb}
 use lib.ListN.{length, take}
 use mir.Syntax.{w64}
 use mir.Val.{Fits}
-use Rattle.reading.specs.Script.{Value, give, nothing}
+use Rattle.reading.specs.Script.{give, nothing}
 use Rattle.reading.specs.Cursor.{Out, times, follow}
 use Rattle.reading.specs.Layout.{fields, opened, flows, flow}
 use Rattle.reading.specs.Answer.{layout-of}
@@ -25,18 +25,18 @@ use Rattle.flows.specs.declared.frames.Frame.{Frame}
 use Rattle.flows.specs.declared.frames.Frame.the-variants as frame
 use Rattle.flows.specs.declared.frames.Scanned.the-variants as scanned
 use Rattle.flows.specs.Scanned.{Scan, frame-out}
-use Rattle.flows.specs.Chain.{Then}
+use Rattle.flows.specs.Chain.{Ends}
 use Rattle.flows.specs.Passing.{Passes, Passes-record}
 use Rattle.flows.proofs.Chain.{unsure}
-use Rattle.flows.proofs.Formats.{row-arm}
+use Rattle.flows.proofs.Formats.{arm}
 use Rattle.flows.proofs.Scan.{scan-inside, scan-on, scan-turn, flow-thrift, frame-ends, frame-fits, frame-part, frame-scan, record-got, data-got}
 
 -- ---- a payload
 module _ (k : ℕ) (s : List ℕ) (c : Cursor) (f : ℕ) where
-  pub passes-arm : {p : Passed} {vs : List Value} → Then (layout-of 2 k) s (passed.Got c) p vs → f ≡ k → opened (flows (give nothing)) k ≡ fields (layout-of 2 k) (λ _. give nothing)
+  pub passes-arm : {p : Passed} → Ends (layout-of 2 k) s (passed.Got c) p → f ≡ k → opened (flows (give nothing)) k ≡ fields (layout-of 2 k) (λ _. give nothing)
       → leb (k + 1) 1016 ≡ true → Passes s c f p
   passes-arm {p} t h r b =
-      let e : passed-out p nothing ≡ follow (opened (flows (give nothing)) f) s (place c) = row-arm k s c f t h r in
+      let e : passed-out p nothing ≡ follow (opened (flows (give nothing)) f) s (place c) = arm k s c f t h r in
       record { flat = λ _ z. absurd (omega (arith, leb-true (k + 1) 1016 b)); is = λ w. rw w at e }
 
 pub passes-none : {s : List ℕ} {c : Cursor} {f : ℕ} {x : Outcome} → Passes s c f (passed.Stop x)

@@ -7,15 +7,12 @@ use Rattle.reading.specs.Script.{Value, nothing, Script, give}
 use Rattle.reading.specs.Cursor.{got, follow}
 use Rattle.reading.specs.Layout.{Field, fields, opened, flows}
 use Rattle.reading.specs.Answer.{layout-of}
-use Rattle.reading.proofs.Codes.{fair-layout}
 use Rattle.reading.proofs.Fields.{fields-then, shown-reads, shown-halts}
 use Rattle.xdr.specs.declared.Cursor.{Cursor}
-use Rattle.xdr.specs.declared.Outcome.{Outcome}
 use Rattle.xdr.specs.declared.Passed.{Passed}
 use Rattle.xdr.specs.declared.Passed.the-variants as passed
-use Rattle.xdr.specs.Shown.{place, Reads, Answers, passed-of, passed-out}
-use Rattle.xdr.proofs.Ends.{reads-on}
-use Rattle.flows.specs.Chain.{Then, goes, halts}
+use Rattle.xdr.specs.Shown.{place, Reads, passed-out}
+use Rattle.flows.specs.Chain.{goes, halts, Ends, ends}
 
 -- fields alone
 pub flat : (l : List Field) (s : List ℕ) (c : Cursor) {vs : List Value} (p : Passed) → Reads l s c p vs → passed-out p nothing ≡ follow (fields l (λ _. give nothing)) s (place c)
@@ -23,21 +20,16 @@ unfolding follow
 flat l s c (passed.Got d) e = sym (fields-then l _ s (place c) ∙ rw (shown-reads l s (place c) (e .is)))
 flat l s c (passed.Stop x) e = sym (fields-then l _ s (place c) ∙ rw (shown-halts l s (place c) (e .is)))
 
-pub arm : (k : ℕ) (s : List ℕ) (c : Cursor) (f : ℕ) {o : Outcome} {p : Passed} {vs : List Value} → Answers (layout-of 2 k) s (passed.Got c) o vs → p ≡ passed-of o → f ≡ k
-    → opened (flows (give nothing)) k ≡ fields (layout-of 2 k) (λ _. give nothing)
-    → passed-out p nothing ≡ follow (opened (flows (give nothing)) f) s (place c)
-arm k s c f {p = p} a i h r = flat (layout-of 2 k) s c p (reads-on a i (fair-layout 2 k)) ∙ ap (λ (x : Script). follow x s (place c)) (sym r ∙ ap (opened (flows (give nothing))) (sym h))
-
--- a layout that was read, whatever its values
-whole : (l : List Field) (s : List ℕ) (c : Cursor) {p : Passed} {vs : List Value} → Then l s (passed.Got c) p vs → passed-out p nothing ≡ follow (fields l (λ _. give nothing)) s (place c)
+-- a layout that was passed, whatever its values
+whole : (l : List Field) (s : List ℕ) (c : Cursor) {p : Passed} → Ends l s (passed.Got c) p → passed-out p nothing ≡ follow (fields l (λ _. give nothing)) s (place c)
 unfolding follow
-whole l s c (goes e i) = sym (fields-then l _ s (place c) ∙ rw e)
-whole l s c (halts e) = sym (fields-then l _ s (place c) ∙ rw e)
+whole l s c (ends (goes e i)) = sym (fields-then l _ s (place c) ∙ rw e)
+whole l s c (ends (halts e)) = sym (fields-then l _ s (place c) ∙ rw e)
 
-pub row-arm : (k : ℕ) (s : List ℕ) (c : Cursor) (f : ℕ) {p : Passed} {vs : List Value} → Then (layout-of 2 k) s (passed.Got c) p vs → f ≡ k
+pub arm : (k : ℕ) (s : List ℕ) (c : Cursor) (f : ℕ) {p : Passed} → Ends (layout-of 2 k) s (passed.Got c) p → f ≡ k
     → opened (flows (give nothing)) k ≡ fields (layout-of 2 k) (λ _. give nothing)
     → passed-out p nothing ≡ follow (opened (flows (give nothing)) f) s (place c)
-row-arm k s c f t h r = whole (layout-of 2 k) s c t ∙ ap (λ (x : Script). follow x s (place c)) (sym r ∙ ap (opened (flows (give nothing))) (sym h))
+arm k s c f t h r = whole (layout-of 2 k) s c t ∙ ap (λ (x : Script). follow x s (place c)) (sym r ∙ ap (opened (flows (give nothing))) (sym h))
 
 pub raw : (s : List ℕ) (c : Cursor) (f : ℕ) → (f ≡ 1 → ⊥) → (f ≡ 2 → ⊥) → (f ≡ 3 → ⊥) → (f ≡ 4 → ⊥) → (f ≡ 1001 → ⊥) → (f ≡ 1002 → ⊥) → (f ≡ 1003 → ⊥) → (f ≡ 1004 → ⊥) → (f ≡ 1005 → ⊥) → (f ≡ 1006 → ⊥) → (f ≡ 1007 → ⊥) → (f ≡ 1008 → ⊥) → (f ≡ 1009 → ⊥) → (f ≡ 1010 → ⊥) → (f ≡ 1011 → ⊥) → (f ≡ 1012 → ⊥) → (f ≡ 1013 → ⊥) → (f ≡ 1014 → ⊥) → (f ≡ 1015 → ⊥) → (f ≡ 1016 → ⊥)
     → got nothing (place c) ≡ follow (opened (flows (give nothing)) f) s (place c)

@@ -8,7 +8,7 @@ use lib.ListN.{length, getD}
 use Rattle.reading.specs.Bytes.{be4}
 use Rattle.reading.specs.Script.{Value, number}
 use Rattle.reading.specs.Cursor.{got}
-use Rattle.reading.specs.Layout.{Field, str, list, segments}
+use Rattle.reading.specs.Layout.{Field, list, segments}
 use Rattle.reading.proofs.Fields.{fields-out}
 use Rattle.xdr.specs.declared.Cursor.{Cursor}
 use Rattle.xdr.specs.declared.Outcome.{Outcome}
@@ -31,6 +31,10 @@ pub data Then (l : List Field) (s : List ℕ) : Passed → Passed → List Value
   goes : {d e : Cursor} {vs : List Value} → fields-out l s (place d) ≡ got vs (place e) → Inside s e → Then l s (passed.Got d) (passed.Got e) vs
   halts : {d : Cursor} {x : Outcome} {vs : List Value} → fields-out l s (place d) ≡ refusal x → Then l s (passed.Got d) (passed.Stop x) vs
   stays : {x : Outcome} {vs : List Value} → Then l s (passed.Stop x) (passed.Stop x) vs
+
+-- the fields l, read on from p, end so, whatever they give
+pub data Ends (l : List Field) (s : List ℕ) (p q : Passed) : Type 0 where
+  ends : {vs : List Value} → Then l s p q vs → Ends l s p q
 
 -- all was read up to here
 pub record Sure (q : Passed) : Type 0 where
@@ -61,7 +65,6 @@ loaded n w = loaded-from n w 0
 -- ---- what is answered by where it lies
 
 abbrev pub field-of : Kind → Field
-field-of kind.Text = str
 field-of kind.List = list
 field-of kind.Segments = segments
 

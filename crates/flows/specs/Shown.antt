@@ -1,12 +1,10 @@
 -- What this crate's records are in terms of the reading: the values of their fields, in the order of the layout. Assumes nothing.
-use Prim.Native.Nat.{ℕ, _+_}
+use Prim.Native.Nat.{ℕ}
 use mathlib.Core.List.{List, [], _∷_}
-use Rattle.reading.specs.Bytes.{be4}
 use Rattle.reading.specs.Script.{Value, number, octets, part}
 use Rattle.xdr.specs.Shown.{span, an-address}
 use Rattle.flows.specs.Chain.{loaded}
 use Rattle.flows.specs.declared.lists.Segment.{Segment}
-use Rattle.flows.specs.declared.sampled.SampledRow.{SampledRow}
 use Rattle.flows.specs.declared.sampled.SampledHeader.{SampledHeader}
 use Rattle.flows.specs.declared.sampled.SampledEthernet.{SampledEthernet}
 use Rattle.flows.specs.declared.sampled.SampledIpv4.{SampledIpv4}
@@ -32,10 +30,6 @@ use Rattle.flows.specs.declared.wireless.Extended80211Aggregation.{Exten
 
 abbrev pub a-segment : Segment → List Value
 a-segment r = number (r .kind) ∷ part (span (r .path)) ∷ []
-
--- by where the two words between protocol and header lie
-abbrev pub sampled-row : List ℕ → SampledRow → List Value
-sampled-row s r = number (r .protocol) ∷ number (be4 s (r .at)) ∷ number (be4 s (r .at + 4)) ∷ part (span (r .header)) ∷ []
 
 abbrev pub sampled-header : SampledHeader → List Value
 sampled-header r = number (r .protocol) ∷ number (r .«frame_length») ∷ number (r .stripped) ∷ part (span (r .header)) ∷ []

@@ -4,11 +4,8 @@ ghost use mathlib.Core.Path.{_≡_};
 ghost use Rattle.flows.specs.Scanned.{Scan};
 ghost use Rattle.flows.specs.Passing.{Passes, Passes-record, Ahead-of};
 ghost use Rattle.xdr.specs.Shown.{Inside};
-use crate::extended::ExtendedSwitch;
 use crate::frames::Frame;
-use crate::mpls::ExtendedMplsLvpFec;
-use crate::sampled::SampledHeader;
-use crate::sampled::SampledIpv4;
+use crate::pass::Row;
 use xdr::Cursor;
 use xdr::Passed;
 
@@ -24,12 +21,14 @@ fn payload(c: Cursor, s: &[u8], format: u32) -> Passed
     requires { ⌜ Inside (now s) c ⌝ }
     ensures { λ r. ⌜ Passes (now (s .entry)) c format r ⌝ }
 {
-    let p = Passed::Got(c);
+    let row = Row {
+        passed: Passed::Got(c),
+    };
     match format {
-        1 => SampledHeader::row(p, s).passed,
-        3 => SampledIpv4::row(p, s).passed,
-        1001 => ExtendedSwitch::row(p, s).passed,
-        1011 => ExtendedMplsLvpFec::row(p, s).passed,
+        1 => row.protocol(s).words(s, 2).opaque(s).passed,
+        3 => row.words(s, 8).passed,
+        1001 => row.words(s, 4).passed,
+        1011 => row.words(s, 1).passed,
         _ => Passed::Stop(c.refusal(0)),
     }
 }

@@ -1,28 +1,10 @@
-// What a flow record's payload holds, by its format; an aggregation is not read here, since it holds records again.
+// What a flow record's payload holds: document 01's table, row by row. An aggregation is not read here, since it holds records again.
 ghost use mathlib.Core.Path.{_≡_};
 ghost use Rattle.reading.specs.Script.{give, nothing};
 ghost use Rattle.reading.specs.Cursor.{follow};
 ghost use Rattle.reading.specs.Layout.{opened, flows};
 ghost use Rattle.xdr.specs.Shown.{Inside, place, passed-out};
-use crate::extended::ExtendedGateway;
-use crate::extended::ExtendedNat;
-use crate::extended::ExtendedRouter;
-use crate::extended::ExtendedSwitch;
-use crate::extended::ExtendedUrl;
-use crate::extended::ExtendedUser;
-use crate::extended::ExtendedVlanTunnel;
-use crate::mpls::ExtendedMpls;
-use crate::mpls::ExtendedMplsFec;
-use crate::mpls::ExtendedMplsLvpFec;
-use crate::mpls::ExtendedMplsTunnel;
-use crate::mpls::ExtendedMplsVc;
-use crate::sampled::SampledEthernet;
-use crate::sampled::SampledHeader;
-use crate::sampled::SampledIpv4;
-use crate::sampled::SampledIpv6;
-use crate::wireless::Extended80211Payload;
-use crate::wireless::Extended80211Rx;
-use crate::wireless::Extended80211Tx;
+use crate::pass::Row;
 use xdr::Cursor;
 use xdr::Passed;
 
@@ -31,27 +13,48 @@ pub fn pass(c: Cursor, s: &[u8], format: u32) -> Passed
     requires { ⌜ (format ≡ 1016 → ⊥) ⌝ }
     ensures { λ r. ⌜ passed-out r nothing ≡ follow (opened (flows (give nothing)) format) (now (s .entry)) (place c) ⌝ }
 {
-    let p = Passed::Got(c);
+    let row = Row {
+        passed: Passed::Got(c),
+    };
     match format {
-        1 => SampledHeader::row(p, s).passed,
-        2 => SampledEthernet::parse(p, s).outcome.passed(),
-        3 => SampledIpv4::row(p, s).passed,
-        4 => SampledIpv6::parse(p, s).outcome.passed(),
-        1001 => ExtendedSwitch::row(p, s).passed,
-        1002 => ExtendedRouter::parse(p, s).outcome.passed(),
-        1003 => ExtendedGateway::parse(p, s).outcome.passed(),
-        1004 => ExtendedUser::parse(p, s).outcome.passed(),
-        1005 => ExtendedUrl::parse(p, s).outcome.passed(),
-        1006 => ExtendedMpls::parse(p, s).outcome.passed(),
-        1007 => ExtendedNat::parse(p, s).outcome.passed(),
-        1008 => ExtendedMplsTunnel::parse(p, s).outcome.passed(),
-        1009 => ExtendedMplsVc::parse(p, s).outcome.passed(),
-        1010 => ExtendedMplsFec::parse(p, s).outcome.passed(),
-        1011 => ExtendedMplsLvpFec::row(p, s).passed,
-        1012 => ExtendedVlanTunnel::parse(p, s).outcome.passed(),
-        1013 => Extended80211Payload::parse(p, s).outcome.passed(),
-        1014 => Extended80211Rx::parse(p, s).outcome.passed(),
-        1015 => Extended80211Tx::parse(p, s).outcome.passed(),
-        _ => p,
+        1 => row.protocol(s).words(s, 2).opaque(s).passed,
+        2 => row.words(s, 1)
+            .six(s, false)
+            .six(s, false)
+            .words(s, 1)
+            .passed,
+        3 => row.words(s, 8).passed,
+        4 => row.words(s, 2).sixteen(s).sixteen(s).words(s, 4).passed,
+        1001 => row.words(s, 4).passed,
+        1002 => row.address(s).words(s, 2).passed,
+        1003 => row.address(s)
+            .words(s, 3)
+            .segments(s)
+            .list(s)
+            .words(s, 1)
+            .passed,
+        1004 => row.words(s, 1).text(s).words(s, 1).text(s).passed,
+        1005 => row.words(s, 1).text(s).text(s).passed,
+        1006 => row.address(s).list(s).list(s).passed,
+        1007 => row.address(s).address(s).passed,
+        1008 => row.text(s).words(s, 2).passed,
+        1009 => row.text(s).words(s, 3).passed,
+        1010 => row.address(s).words(s, 1).passed,
+        1011 => row.words(s, 1).passed,
+        1012 => row.list(s).passed,
+        1013 => row.words(s, 1).opaque(s).passed,
+        1014 => row.text(s)
+            .six(s, true)
+            .words(s, 2)
+            .long(s)
+            .words(s, 3)
+            .passed,
+        1015 => row.text(s)
+            .six(s, true)
+            .words(s, 5)
+            .long(s)
+            .words(s, 1)
+            .passed,
+        _ => row.passed,
     }
 }

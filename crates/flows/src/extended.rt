@@ -4,13 +4,11 @@ ghost use mathlib.Core.List.{[], _∷_, _++_};
 ghost use Rattle.reading.specs.Layout.{addr, list, segments, str, words};
 ghost use Rattle.reading.specs.Values.{zeros};
 ghost use Rattle.reading.specs.Answer.{layout-of};
-ghost use Rattle.reading.proofs.Words.{numbers};
 ghost use Rattle.xdr.specs.Shown.{Answers};
-ghost use Rattle.flows.specs.Chain.{Within, Then, There};
+ghost use Rattle.flows.specs.Chain.{Within, Then};
 ghost use Rattle.flows.specs.Shown.{extended-switch, extended-router, route, extended-gateway, extended-user, extended-url, extended-nat, extended-vlan-tunnel};
 use crate::next;
 use crate::next::Kind;
-use crate::next::Run;
 use xdr::Address;
 use xdr::Outcome;
 use xdr::Passed;
@@ -27,20 +25,11 @@ pub struct ExtendedSwitch {
 }
 
 impl ExtendedSwitch {
-    // The whole layout is a row, so the framing needs no more than this.
-    pub fn row(p: Passed, s: &[u8]) -> Run
-        requires { ⌜ Within (now s) p ⌝ }
-        ensures { λ r. ⌜ Then (layout-of 2 1001) (now (s .entry)) p (r .passed) (numbers 4 (now (s .entry)) (r .at)) ⌝ }
-        ensures { λ r. ⌜ There 4 (now (s .entry)) (r .passed) (r .at) ⌝ }
-    {
-        next::words(p, s, 4)
-    }
-
     pub fn parse(p: Passed, s: &[u8]) -> ExtendedSwitch
         requires { ⌜ Within (now s) p ⌝ }
         ensures { λ r. ⌜ Answers (layout-of 2 1001) (now (s .entry)) p (r .outcome) (extended-switch r) ⌝ }
     {
-        let row = ExtendedSwitch::row(p, s);
+        let row = next::words(p, s, 4);
         let passed = row.passed;
         match passed {
             Passed::Stop(r) => ExtendedSwitch {
@@ -231,13 +220,13 @@ impl ExtendedUser {
         let src = next::word(p, s);
         let passed = src.passed;
         let src_charset = src.value;
-        let src = next::range(passed, s, Kind::Text);
+        let src = next::text(passed, s);
         let passed = src.passed;
         let src_user = src.span;
         let dst = next::word(passed, s);
         let passed = dst.passed;
         let dst_charset = dst.value;
-        let dst = next::range(passed, s, Kind::Text);
+        let dst = next::text(passed, s);
         let passed = dst.passed;
         let dst_user = dst.span;
         match passed {
@@ -269,10 +258,10 @@ impl ExtendedUrl {
     {
         let way = next::word(p, s);
         let passed = way.passed;
-        let path = next::range(passed, s, Kind::Text);
+        let path = next::text(passed, s);
         let passed = path.passed;
         let url = path.span;
-        let server = next::range(passed, s, Kind::Text);
+        let server = next::text(passed, s);
         let passed = server.passed;
         let host = server.span;
         match passed {

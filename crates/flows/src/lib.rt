@@ -7,6 +7,7 @@ pub mod frames;
 pub mod lists;
 pub mod mpls;
 pub mod next;
+pub mod pass;
 pub mod put;
 pub mod records;
 pub mod sampled;

@@ -4,13 +4,11 @@ ghost use mathlib.Core.List.{[], _∷_};
 ghost use Rattle.reading.specs.Layout.{addr, list};
 ghost use Rattle.reading.specs.Values.{zeros};
 ghost use Rattle.reading.specs.Answer.{layout-of};
-ghost use Rattle.reading.proofs.Words.{numbers};
 ghost use Rattle.xdr.specs.Shown.{Answers};
-ghost use Rattle.flows.specs.Chain.{Within, Then, There};
+ghost use Rattle.flows.specs.Chain.{Within};
 ghost use Rattle.flows.specs.Shown.{extended-mpls, extended-mpls-tunnel, extended-mpls-vc, extended-mpls-fec, extended-mpls-lvp-fec};
 use crate::next;
 use crate::next::Kind;
-use crate::next::Run;
 use xdr::Address;
 use xdr::Outcome;
 use xdr::Passed;
@@ -79,7 +77,7 @@ impl ExtendedMplsTunnel {
         requires { ⌜ Within (now s) p ⌝ }
         ensures { λ r. ⌜ Answers (layout-of 2 1008) (now (s .entry)) p (r .outcome) (extended-mpls-tunnel r) ⌝ }
     {
-        let name = next::range(p, s, Kind::Text);
+        let name = next::text(p, s);
         let passed = name.passed;
         let tunnel_lsp_name = name.span;
         let row = next::words(passed, s, 2);
@@ -119,7 +117,7 @@ impl ExtendedMplsVc {
         requires { ⌜ Within (now s) p ⌝ }
         ensures { λ r. ⌜ Answers (layout-of 2 1009) (now (s .entry)) p (r .outcome) (extended-mpls-vc r) ⌝ }
     {
-        let name = next::range(p, s, Kind::Text);
+        let name = next::text(p, s);
         let passed = name.passed;
         let vc_instance_name = name.span;
         let row = next::words(passed, s, 3);
@@ -190,20 +188,11 @@ pub struct ExtendedMplsLvpFec {
 }
 
 impl ExtendedMplsLvpFec {
-    // The whole layout is a row, so the framing needs no more than this.
-    pub fn row(p: Passed, s: &[u8]) -> Run
-        requires { ⌜ Within (now s) p ⌝ }
-        ensures { λ r. ⌜ Then (layout-of 2 1011) (now (s .entry)) p (r .passed) (numbers 1 (now (s .entry)) (r .at)) ⌝ }
-        ensures { λ r. ⌜ There 1 (now (s .entry)) (r .passed) (r .at) ⌝ }
-    {
-        next::words(p, s, 1)
-    }
-
     pub fn parse(p: Passed, s: &[u8]) -> ExtendedMplsLvpFec
         requires { ⌜ Within (now s) p ⌝ }
         ensures { λ r. ⌜ Answers (layout-of 2 1011) (now (s .entry)) p (r .outcome) (extended-mpls-lvp-fec r) ⌝ }
     {
-        let row = ExtendedMplsLvpFec::row(p, s);
+        let row = next::words(p, s, 1);
         let passed = row.passed;
         match passed {
             Passed::Stop(r) => ExtendedMplsLvpFec {

@@ -5,7 +5,7 @@ ghost use mathlib.Core.Bool.{cond};
 ghost use Prim.Native.Nat.{_+_, _*_, _≤_, _<_};
 ghost use lib.ListN.{length, take};
 ghost use Rattle.reading.specs.Script.{number, octets, part, long, opaque, six, eight, sixteen};
-ghost use Rattle.reading.specs.Layout.{plain, mac, addr, words, bytes};
+ghost use Rattle.reading.specs.Layout.{plain, mac, addr, str, words, bytes};
 ghost use Rattle.reading.proofs.Words.{numbers};
 ghost use Rattle.xdr.specs.Shown.{Inside, Reads, span, width, an-address};
 ghost use Rattle.flows.specs.Chain.{Within, Then, There, Has-words, loaded, word-of, field-of, range-of};
@@ -44,9 +44,8 @@ pub struct Mac {
     pub bytes: [u8; 6],
 }
 
-// What else is answered by where it lies.
+// What is counted, and answered by where it lies.
 pub enum Kind {
-    Text,
     List,
     Segments,
 }
@@ -242,12 +241,24 @@ pub fn opaque(p: Passed, s: &[u8]) -> Ranged
     }
 }
 
+pub fn text(p: Passed, s: &[u8]) -> Ranged
+    requires { ⌜ Within (now s) p ⌝ }
+    ensures { λ r. ⌜ Then (str ∷ []) (now (s .entry)) p (r .passed) (part (span (r .span)) ∷ []) ⌝ }
+{
+    match p {
+        Passed::Stop(r) => Ranged {
+            passed: Passed::Stop(r),
+            span: Span { start: 0, count: 0 },
+        },
+        Passed::Got(c) => of_part(c.read_string(s)),
+    }
+}
+
 fn range_at(c: Cursor, s: &[u8], kind: Kind) -> Ranged
     requires { ⌜ Inside (now s) c ⌝ }
     ensures { λ r. ⌜ Reads (field-of kind ∷ []) (now (s .entry)) c (r .passed) (part (span (r .span)) ∷ []) ⌝ }
 {
     match kind {
-        Kind::Text => of_part(c.read_string(s)),
         Kind::List => lists::list(c, s),
         Kind::Segments => lists::segments(c, s),
     }

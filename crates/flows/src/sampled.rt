@@ -5,13 +5,11 @@ ghost use Rattle.reading.specs.Script.{number, sixteen};
 ghost use Rattle.reading.specs.Layout.{bytes, protocol, words};
 ghost use Rattle.reading.specs.Values.{zeros};
 ghost use Rattle.reading.specs.Answer.{layout-of};
-ghost use Rattle.reading.proofs.Words.{numbers};
 ghost use Rattle.xdr.specs.Shown.{Inside, Answers, refused};
-ghost use Rattle.flows.specs.Chain.{Within, Then, There};
-ghost use Rattle.flows.specs.Shown.{sampled-row, sampled-header, sampled-ethernet, sampled-ipv4, sampled-ipv6};
+ghost use Rattle.flows.specs.Chain.{Within, Then};
+ghost use Rattle.flows.specs.Shown.{sampled-header, sampled-ethernet, sampled-ipv4, sampled-ipv6};
 use crate::next;
 use crate::next::Number;
-use crate::next::Run;
 use xdr::Cursor;
 use xdr::Outcome;
 use xdr::Passed;
@@ -19,7 +17,7 @@ use xdr::Span;
 use xdr::Word;
 
 // The protocol of a header, one of those that `HeaderProtocol` knows.
-fn protocol(p: Passed, s: &[u8]) -> Number
+pub fn protocol(p: Passed, s: &[u8]) -> Number
     requires { ⌜ Within (now s) p ⌝ }
     ensures { λ r. ⌜ Then (protocol ∷ []) (now (s .entry)) p (r .passed) (number (r .value) ∷ []) ⌝ }
 {
@@ -65,14 +63,6 @@ fn unknown(c: Cursor) -> Number
     }
 }
 
-// Where the parts of format 1 lie, which is all that the framing needs of it.
-pub struct SampledRow {
-    pub passed: Passed,
-    pub protocol: u32,
-    pub at: usize,
-    pub header: Span,
-}
-
 // Format 1: the packet's first bytes, by the protocol of its header.
 #[repr(C)]
 pub struct SampledHeader {
@@ -84,10 +74,9 @@ pub struct SampledHeader {
 }
 
 impl SampledHeader {
-    pub fn row(p: Passed, s: &[u8]) -> SampledRow
+    pub fn parse(p: Passed, s: &[u8]) -> SampledHeader
         requires { ⌜ Within (now s) p ⌝ }
-        ensures { λ r. ⌜ Then (layout-of 2 1) (now (s .entry)) p (r .passed) (sampled-row (now (s .entry)) r) ⌝ }
-        ensures { λ r. ⌜ There 2 (now (s .entry)) (r .passed) (r .at) ⌝ }
+        ensures { λ r. ⌜ Answers (layout-of 2 1) (now (s .entry)) p (r .outcome) (sampled-header r) ⌝ }
     {
         let kind = protocol(p, s);
         let passed = kind.passed;
@@ -96,21 +85,6 @@ impl SampledHeader {
         let bytes = next::opaque(passed, s);
         let passed = bytes.passed;
         let header = bytes.span;
-        SampledRow {
-            passed: passed,
-            protocol: kind.value,
-            at: row.at,
-            header: header,
-        }
-    }
-
-    pub fn parse(p: Passed, s: &[u8]) -> SampledHeader
-        requires { ⌜ Within (now s) p ⌝ }
-        ensures { λ r. ⌜ Answers (layout-of 2 1) (now (s .entry)) p (r .outcome) (sampled-header r) ⌝ }
-    {
-        let row = SampledHeader::row(p, s);
-        let passed = row.passed;
-        let header = row.header;
         match passed {
             Passed::Stop(r) => SampledHeader {
                 outcome: r,
@@ -123,7 +97,7 @@ impl SampledHeader {
                 let sizes = next::load_words(s, row.at, 2);
                 SampledHeader {
                     outcome: d.accepted(),
-                    protocol: row.protocol,
+                    protocol: kind.value,
                     frame_length: sizes[0],
                     stripped: sizes[1],
                     header: header,
@@ -192,20 +166,11 @@ pub struct SampledIpv4 {
 }
 
 impl SampledIpv4 {
-    // The whole layout is a row, so the framing needs no more than this.
-    pub fn row(p: Passed, s: &[u8]) -> Run
-        requires { ⌜ Within (now s) p ⌝ }
-        ensures { λ r. ⌜ Then (layout-of 2 3) (now (s .entry)) p (r .passed) (numbers 8 (now (s .entry)) (r .at)) ⌝ }
-        ensures { λ r. ⌜ There 8 (now (s .entry)) (r .passed) (r .at) ⌝ }
-    {
-        next::words(p, s, 8)
-    }
-
     pub fn parse(p: Passed, s: &[u8]) -> SampledIpv4
         requires { ⌜ Within (now s) p ⌝ }
         ensures { λ r. ⌜ Answers (layout-of 2 3) (now (s .entry)) p (r .outcome) (sampled-ipv4 r) ⌝ }
     {
-        let row = SampledIpv4::row(p, s);
+        let row = next::words(p, s, 8);
         let passed = row.passed;
         match passed {
             Passed::Stop(r) => SampledIpv4 {

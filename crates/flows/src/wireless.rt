@@ -10,7 +10,6 @@ ghost use Rattle.xdr.specs.Shown.{Answers};
 ghost use Rattle.flows.specs.Chain.{Within, Then};
 ghost use Rattle.flows.specs.Shown.{extended-80211-payload, network, extended-80211-rx, extended-80211-tx, extended-80211-aggregation};
 use crate::next;
-use crate::next::Kind;
 use xdr::Outcome;
 use xdr::Passed;
 use xdr::Span;
@@ -62,7 +61,7 @@ impl Network {
         requires { ⌜ n ≤ 11 ⌝ }
         ensures { λ r. ⌜ Then (str ∷ mac ∷ words n) (now (s .entry)) p (r .passed) (network n r) ⌝ }
     {
-        let name = next::range(p, s, Kind::Text);
+        let name = next::text(p, s);
         let passed = name.passed;
         let ssid = name.span;
         let station = next::six(passed, s, true);

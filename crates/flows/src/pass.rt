@@ -1,0 +1,119 @@
+// A row of a layout that is passed, field by field, with nothing kept of it: what the framing needs of a record.
+ghost use mathlib.Core.List.{[], _∷_};
+ghost use mathlib.Core.Bool.{cond};
+ghost use Rattle.reading.specs.Script.{long, opaque, six, sixteen};
+ghost use Rattle.reading.specs.Layout.{plain, protocol, mac, addr, list, segments, str, words, bytes};
+ghost use Rattle.flows.specs.Chain.{Within, Ends};
+use crate::next;
+use crate::next::Kind;
+use crate::sampled;
+use xdr::Passed;
+
+// How far it was passed.
+pub struct Row {
+    pub passed: Passed,
+}
+
+impl Row {
+    pub fn protocol(self, s: &[u8]) -> Row
+        requires { ⌜ Within (now s) (self .passed) ⌝ }
+        ensures { λ r. ⌜ Ends (protocol ∷ []) (now (s .entry)) (self .passed) (r .passed) ⌝ }
+    {
+        let p = self.passed;
+        let field = sampled::protocol(p, s);
+        let passed = field.passed;
+        Row { passed: passed }
+    }
+
+    // n words.
+    pub fn words(self, s: &[u8], n: u32) -> Row
+        requires { ⌜ Within (now s) (self .passed) ⌝ }
+        ensures { λ r. ⌜ Ends (words n) (now (s .entry)) (self .passed) (r .passed) ⌝ }
+    {
+        let p = self.passed;
+        let field = next::words(p, s, n);
+        let passed = field.passed;
+        Row { passed: passed }
+    }
+
+    pub fn long(self, s: &[u8]) -> Row
+        requires { ⌜ Within (now s) (self .passed) ⌝ }
+        ensures { λ r. ⌜ Ends (plain long ∷ []) (now (s .entry)) (self .passed) (r .passed) ⌝ }
+    {
+        let p = self.passed;
+        let field = next::long(p, s);
+        let passed = field.passed;
+        Row { passed: passed }
+    }
+
+    // Six bytes: a block of their own, or the first of a block of eight.
+    pub fn six(self, s: &[u8], padded: bool) -> Row
+        requires { ⌜ Within (now s) (self .passed) ⌝ }
+        ensures { λ r. ⌜ Ends (cond padded mac (bytes six) ∷ []) (now (s .entry)) (self .passed) (r .passed) ⌝ }
+    {
+        let p = self.passed;
+        let field = next::six(p, s, padded);
+        let passed = field.passed;
+        Row { passed: passed }
+    }
+
+    pub fn sixteen(self, s: &[u8]) -> Row
+        requires { ⌜ Within (now s) (self .passed) ⌝ }
+        ensures { λ r. ⌜ Ends (bytes sixteen ∷ []) (now (s .entry)) (self .passed) (r .passed) ⌝ }
+    {
+        let p = self.passed;
+        let field = next::sixteen(p, s);
+        let passed = field.passed;
+        Row { passed: passed }
+    }
+
+    pub fn address(self, s: &[u8]) -> Row
+        requires { ⌜ Within (now s) (self .passed) ⌝ }
+        ensures { λ r. ⌜ Ends (addr ∷ []) (now (s .entry)) (self .passed) (r .passed) ⌝ }
+    {
+        let p = self.passed;
+        let field = next::address(p, s);
+        let passed = field.passed;
+        Row { passed: passed }
+    }
+
+    pub fn opaque(self, s: &[u8]) -> Row
+        requires { ⌜ Within (now s) (self .passed) ⌝ }
+        ensures { λ r. ⌜ Ends (plain opaque ∷ []) (now (s .entry)) (self .passed) (r .passed) ⌝ }
+    {
+        let p = self.passed;
+        let field = next::opaque(p, s);
+        let passed = field.passed;
+        Row { passed: passed }
+    }
+
+    pub fn text(self, s: &[u8]) -> Row
+        requires { ⌜ Within (now s) (self .passed) ⌝ }
+        ensures { λ r. ⌜ Ends (str ∷ []) (now (s .entry)) (self .passed) (r .passed) ⌝ }
+    {
+        let p = self.passed;
+        let field = next::text(p, s);
+        let passed = field.passed;
+        Row { passed: passed }
+    }
+
+    pub fn list(self, s: &[u8]) -> Row
+        requires { ⌜ Within (now s) (self .passed) ⌝ }
+        ensures { λ r. ⌜ Ends (list ∷ []) (now (s .entry)) (self .passed) (r .passed) ⌝ }
+    {
+        let p = self.passed;
+        let field = next::range(p, s, Kind::List);
+        let passed = field.passed;
+        Row { passed: passed }
+    }
+
+    pub fn segments(self, s: &[u8]) -> Row
+        requires { ⌜ Within (now s) (self .passed) ⌝ }
+        ensures { λ r. ⌜ Ends (segments ∷ []) (now (s .entry)) (self .passed) (r .passed) ⌝ }
+    {
+        let p = self.passed;
+        let field = next::range(p, s, Kind::Segments);
+        let passed = field.passed;
+        Row { passed: passed }
+    }
+}
