@@ -17,7 +17,8 @@ use Rattle.reading.proofs.Stands.{place}
 use Rattle.reading.proofs.Complete.{complete}
 use Rattle.reading.proofs.Exactly.{accepted-is-read}
 use Rattle.demands.specs.Readings.{Reading, Allowed, Answers, Accepted}
-use Rattle.demands.proofs.Codes.{Told, fault, datagram-told}
+use Rattle.reading.proofs.Faults.{Sure, fault}
+use Rattle.reading.proofs.Codes.{sure-datagram}
 use Rattle.demands.proofs.Quarter.{one-size}
 use Rattle.demands.specs.Depths.{Shallow}
 use Rattle.demands.proofs.Depths.{deeper}
@@ -54,7 +55,7 @@ module _ (s : List ℕ) where
   stored-answers w a q h = rw (le-leb (size (a .ranges)) (room w) h) (record { code = refl; at = refl; steps = refl; needed = refl; head = refl; store = refl })
 
 module _ (s w : List ℕ) where
-  stored-accepted : (o : Out Found) → follow datagram s (from 0) ≡ o → Told o → stored header-of o w .code ≡ 0 → Accepted s w (stored header-of o w)
+  stored-accepted : (o : Out Found) → follow datagram s (from 0) ≡ o → Sure o → stored header-of o w .code ≡ 0 → Accepted s w (stored header-of o w)
   unfolding stored
   stored-accepted (got a q) e t z = go (leb (size (a .ranges)) (room w)) refl z
     where
@@ -72,7 +73,7 @@ module _ (s w : List ℕ) where
       x = stored header-of (follow datagram s (from 0)) w
 
       go : (b : Bool) → cond b x (refused 1 0 0 0 w) .code ≡ 0 → Accepted s w (cond b x (refused 1 0 0 0 w))
-      go true z = stored-accepted (follow datagram s (from 0)) refl (datagram-told depth-limit s (from 0)) z
+      go true z = stored-accepted (follow datagram s (from 0)) refl (sure-datagram s (from 0)) z
       go false z = absurd (omega arith)
 
   module _ (short : length s ≤ limit) {f : Found} {bytes items : ℕ} (r : Allowed s f bytes items) where

@@ -1,17 +1,15 @@
 -- Demand 2, of field reading: for each descriptor of an accepted input whose kind and format are read here, field reading answers the values that
 -- the grammar reads at the start of the descriptor's range; and with these values the grammar reads, behind them, what the whole reading has inside
 -- that range. For one datagram, and for a run. Assumes nothing.
-use Prim.Native.Nat.{ℕ, zero, suc, _+_, _*_, _-_, _≤_, _<_}
-use mathlib.Core.Path.{_≡_, refl, sym, ap, _∙_, subst}
-use mathlib.Core.Bool.{Bool, true, false}
-use mathlib.Core.List.{List, _∷_, _++_, append-assoc}
+use Prim.Native.Nat.{ℕ, _+_, _-_, _≤_, _<_}
+use mathlib.Core.Path.{_≡_, sym, ap, _∙_, subst}
+use mathlib.Core.Bool.{true}
+use mathlib.Core.List.{List, _++_}
 use native.Mathlib.Omega.{arith}
 use native.Mathlib.Nat.{zero-add}
-use borrow.Author.Tests.{leb-true, leb-false}
-use lib.Dec.{leb}
-use lib.ListN.{length, take, drop, getD}
-use lib.Seq.{length-take-le, getD-append-add}
-use Rattle.reading.specs.Script.{Value, Range, Forest, bare, tree, Found, Script}
+use lib.ListN.{length, take, drop}
+use lib.Seq.{length-take-le}
+use Rattle.reading.specs.Script.{Value, Range, Forest, Found, Script}
 use Rattle.reading.specs.Cursor.{Place, got, follow}
 use Rattle.reading.specs.Grammar.{Is}
 use Rattle.reading.specs.Layout.{datagram}
@@ -21,9 +19,8 @@ use Rattle.reading.proofs.Stands.{place, drop-take}
 use Rattle.reading.proofs.Fields.{fields-then}
 use Rattle.reading.proofs.Sound.{sound}
 use Rattle.reading.proofs.SoundRows.{Read}
-use Rattle.reading.proofs.Stored.{rows-length}
 use Rattle.reading.proofs.Holding.{read-here, behind as script-behind, up-to}
-use Rattle.reading.proofs.Descriptors.{Among, this, inside, later, read-range, gave, Read-as, entry, descriptor, field-reading-accepts, run-reading-accepts}
+use Rattle.reading.proofs.Descriptors.{Among, read-range, gave, Read-as, descriptor, stands-in, field-reading-accepts, run-reading-accepts}
 use Rattle.demands.specs.FieldsItemised.{only-values}
 use Rattle.demands.proofs.Pieces.{behind}
 
@@ -82,39 +79,6 @@ module _ (s : List ℕ) (g : Forest) (r : Range) where
       let f = sound own (up-to s r) (from x) (only-values (a .values)) (a .holds .next) (omega (arith, l)) e in
       fields-from m a f
       (sound (script-behind (r .kind) (r .format) (r .depth) (a .values)) (up-to s r) (a .holds .next) (a .holds .found) (a .holds .last) (rw (f .at) (f .stands .fits)) (a .holds .rest))
-
--- ---- each descriptor in a store is a range of the forest whose rows stand there
-
-same : (v w : List ℕ) (i j : ℕ) → ((k : ℕ) → entry v i k ≡ entry w j k) → descriptor v i ≡ descriptor w j
-unfolding descriptor
-same v w i j e = λ t. record { kind = e 0 t; format = e 1 t; span = record { start = e 2 t; count = e 3 t }; depth = e 5 t }
-
-past-one : (a b c d e f i : ℕ) (l : List ℕ) → descriptor (a ∷ b ∷ c ∷ d ∷ e ∷ f ∷ l) (suc i) ≡ descriptor l i
-past-one a b c d e f i l =
-    same (a ∷ b ∷ c ∷ d ∷ e ∷ f ∷ l) l (suc i) i (λ k.
-    ap (λ (n : ℕ). getD (a ∷ b ∷ c ∷ d ∷ e ∷ f ∷ l) n 0) {x = 6 * suc i + k} {y = suc (suc (suc (suc (suc (suc (6 * i + k))))))} (omega arith))
-
-past : (l m : List ℕ) (n i : ℕ) → length l ≡ 6 * n → n ≤ i → descriptor (l ++ m) i ≡ descriptor m (i - n)
-past l m n i e h =
-    same (l ++ m) m i (i - n) (λ k.
-    ap (λ (j : ℕ). getD (l ++ m) j 0) {x = 6 * i + k} {y = length l + (6 * (i - n) + k)} (omega arith) ∙ getD-append-add l m (6 * (i - n) + k) 0)
-
-stands-in : (f : Forest) (j p i : ℕ) (rest : List ℕ) → i < size f → (inner : Forest) × Among (descriptor (rows j p f ++ rest) i) inner f
-unfolding rows size descriptor
-stands-in bare j p i rest h = absurd (omega arith)
-stands-in (tree r a b) j p zero rest h = (a, this)
-stands-in (tree r a b) j p (suc i) rest h =
-    let x = rows (j + 1) j a in
-    let y = rows (j + 1 + size a) p b ++ rest in
-    go (stands-in a (j + 1) j i y) (stands-in b (j + 1 + size a) p (i - size a) rest)
-    (past-one (r .kind) (r .format) (r .span .start) (r .span .count) p (r .depth) i ((x ++ rows (j + 1 + size a) p b) ++ rest)
-    ∙ ap (λ (l : List ℕ). descriptor l i) (append-assoc x (rows (j + 1 + size a) p b) rest))
-    (past x y (size a) i (rows-length (j + 1) j a)) (leb (size a) i) refl
-  where
-    go : {d u v : Range} → (i < size a → (inner : Forest) × Among u inner a) → (i - size a < size b → (inner : Forest) × Among v inner b)
-        → d ≡ u → (size a ≤ i → u ≡ v) → (t : Bool) → leb (size a) i ≡ t → (inner : Forest) × Among d inner (tree r a b)
-    go f g e k false t = let m = f (omega (arith, leb-false)) in (m .0, rw e (inside (m .1)))
-    go f g e k true t = let m = g (omega (arith, leb-true)) in (m .0, rw (e ∙ k (leb-true (size a) i t)) (later (m .1)))
 
 -- the descriptors of a store in which the rows of g stand, each that is read here
 abbrev pub All-fields : List ℕ → Forest → List ℕ → Type 0

@@ -11,11 +11,12 @@ use lib.Dec.{leb}
 use lib.ListN.{length, take}
 use Rattle.reading.specs.Script.{Found}
 use Rattle.reading.specs.Cursor.{Out, got, stop, follow}
-use Rattle.reading.specs.Layout.{depth-limit, datagram}
+use Rattle.reading.specs.Layout.{datagram}
 use Rattle.reading.specs.Answer.{limit, from, size, room, header-of, Answer, refused, stored, one}
 use Rattle.reading.proofs.Items.{never}
 use Rattle.demands.specs.Itemised.{Itemised, too-long, faulty, no-room, whole}
-use Rattle.demands.proofs.Codes.{Told, fault, datagram-told}
+use Rattle.reading.proofs.Faults.{Sure, fault}
+use Rattle.reading.proofs.Codes.{sure-datagram}
 use Rattle.demands.specs.Readings.{Allowed}
 use Rattle.demands.proofs.Accepted.{given, accepted-allowed, stored-answers}
 use Rattle.demands.specs.Stops.{Stops}
@@ -72,14 +73,14 @@ pub room-last : (s w : List ℕ) → one s w .code ≡ 9
     → (f : Found) × (bytes items : ℕ) × Allowed s f bytes items × (room w < size (f .ranges)) × (one s w ≡ refused 9 0 items (size (f .ranges)) w)
 room-last s w z = go (one s w) (one-itemised s w) z
   where
-    listed : (c i n : ℕ) → Told {A = Found} (stop c i n) → c ≤ 8
+    listed : (c i n : ℕ) → Sure {A = Found} (stop c i n) → c ≤ 8
     listed c i n (fault k) = k .1
 
     go : (a : Answer) → Itemised s w a → a .code ≡ 9 → (f : Found) × (bytes items : ℕ) × Allowed s f bytes items × (room w < size (f .ranges)) × (a ≡ refused 9 0 items (size (f .ranges)) w)
     go a (too-long h f) z = let k = ap (λ (b : Answer). b .code) f in absurd (omega (arith, k, z))
     go a (faulty h c i n m f) z =
         let k = ap (λ (b : Answer). b .code) f in
-        let j = listed c i n (subst Told (stops-there s w m) (datagram-told depth-limit s (from 0))) in
+        let j = listed c i n (subst Sure (stops-there s w m) (sure-datagram s (from 0))) in
         absurd (omega (arith, k, z, j))
     go a (no-room h g bytes items r k f) z = (g, bytes, items, r, k, f)
     go a (whole h g bytes items r k) z = absurd (omega (arith, k .code, z))

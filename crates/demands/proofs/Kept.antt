@@ -13,7 +13,7 @@ use Rattle.reading.specs.Script.{Value, Found}
 use Rattle.reading.specs.Cursor.{Out, got, stop, follow}
 use Rattle.reading.specs.Layout.{datagram}
 use Rattle.reading.specs.Answer.{limit, limited, from, nobody, size, rows, room, Header, header-of, no-header, Answer, refused, stored, one, datagrams, run}
-use Rattle.reading.proofs.Faults.{either}
+use Rattle.reading.proofs.Items.{either}
 use Rattle.reading.proofs.Stored.{rows-length}
 
 -- what a call does to the store w, and what it shows on a refusal

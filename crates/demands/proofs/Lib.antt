@@ -1,4 +1,3 @@
-pub mod Codes
 pub mod Quarter
 pub mod Kept
 pub mod Nested

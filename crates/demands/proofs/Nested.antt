@@ -13,11 +13,10 @@ use Rattle.reading.specs.Cursor.{Place, Out, got, stop, Reader, times, follow}
 use Rattle.reading.specs.Layout.{Field, fields, Row, _⟼_, _⟼_each_, last-number, opened, ranged, between, framed, pdu, flows, flow, counter, samples, sample, header, depth-limit, datagram-to, datagram}
 use Rattle.reading.specs.Answer.{tried, datagrams}
 use Rattle.demands.specs.Nested.{end, Level, top, inside, Kind-at, Nested, none, next}
-use Rattle.reading.proofs.Items.{never, split}
+use Rattle.reading.proofs.Items.{never, split, either}
 use Rattle.reading.proofs.Stands.{place}
 use Rattle.reading.proofs.Bounds.{Owes, owes}
 use Rattle.reading.proofs.Fields.{fields-out, fields-then}
-use Rattle.reading.proofs.Faults.{either}
 use Rattle.reading.proofs.Counts.{repeat-is}
 use Rattle.reading.proofs.Frames.{Frame, frame-read, span-length, Pdu, pdu-read}
 use Rattle.reading.proofs.Room.{whole, datagram-is, header-on}

@@ -3,20 +3,20 @@
 use Prim.Native.Nat.{ℕ, zero, suc, _+_, _*_, _-_, _≤_, _<_}
 use mathlib.Core.Path.{_≡_, refl, sym, ap, _∙_, subst}
 use mathlib.Core.Bool.{Bool, true, false, cond}
-use mathlib.Core.List.{List, _∷_, _++_, append-assoc}
+use mathlib.Core.List.{List, _++_, append-assoc}
 use native.Mathlib.Omega.{arith}
 use borrow.Author.Tests.{leb-true, leb-false}
 use lib.Dec.{leb}
-use lib.ListN.{length, getD, drop}
-use lib.Seq.{getD-append-add}
+use lib.ListN.{length, drop}
 use Rattle.reading.specs.Script.{Value, Forest, bare, tree, Found}
 use Rattle.reading.specs.Cursor.{Place, Out, got, stop, follow}
 use Rattle.reading.specs.Layout.{depth-limit, datagram}
 use Rattle.reading.specs.Answer.{limit, limited, from, nobody, size, rows, room, Header, header-of, no-header, Answer, refused, stored, one, datagrams, run}
-use Rattle.reading.proofs.Faults.{either}
+use Rattle.reading.proofs.Items.{either}
 use Rattle.reading.proofs.Stored.{rows-length}
-use Rattle.reading.proofs.Descriptors.{entry}
-use Rattle.demands.proofs.Codes.{Told, fault, datagram-told, run-told}
+use Rattle.reading.proofs.Descriptors.{entry, entry-past-one, entry-past}
+use Rattle.reading.proofs.Faults.{Sure, fault}
+use Rattle.reading.proofs.Codes.{sure-datagram, sure-run}
 use Rattle.demands.proofs.Quarter.{one-size, run-size}
 use Rattle.demands.specs.Nested.{top, Nested, Row, row, In-place}
 use Rattle.demands.proofs.Nested.{datagram-nested, run-nested}
@@ -26,16 +26,6 @@ same : (v w : List ℕ) (i j : ℕ) → ((k : ℕ) → entry v i k ≡ entry w j
 unfolding row
 same v w i j e = λ t. record { kind = e 0 t; span = record { start = e 2 t; count = e 3 t }; parent = e 4 t }
 
-past-one : (a b c d e f i : ℕ) (l : List ℕ) → row (a ∷ b ∷ c ∷ d ∷ e ∷ f ∷ l) (suc i) ≡ row l i
-past-one a b c d e f i l =
-    same (a ∷ b ∷ c ∷ d ∷ e ∷ f ∷ l) l (suc i) i (λ k.
-    ap (λ (n : ℕ). getD (a ∷ b ∷ c ∷ d ∷ e ∷ f ∷ l) n 0) {x = 6 * suc i + k} {y = suc (suc (suc (suc (suc (suc (6 * i + k))))))} (omega arith))
-
-past : (l m : List ℕ) (n i : ℕ) → length l ≡ 6 * n → n ≤ i → row (l ++ m) i ≡ row m (i - n)
-past l m n i e h =
-    same (l ++ m) m i (i - n) (λ k.
-    ap (λ (j : ℕ). getD (l ++ m) j 0) {x = 6 * i + k} {y = length l + (6 * (i - n) + k)} (omega arith) ∙ getD-append-add l m (6 * (i - n) + k) 0)
-
 stands-in : (f : Forest) (j p i k : ℕ) (rest : List ℕ) → i < size f → k ≡ j + i → In f j p k (row (rows j p f ++ rest) i)
 unfolding rows size row
 stands-in bare j p i k rest h e = absurd (omega arith)
@@ -43,10 +33,11 @@ stands-in (tree r a b) j p zero k rest h e = let z : k ≡ j = omega arith in th
 stands-in (tree r a b) j p (suc i) k rest h e =
     let x = rows (j + 1) j a in
     let y = rows (j + 1 + size a) p b ++ rest in
+    let z = (x ++ rows (j + 1 + size a) p b) ++ rest in
     subst (In (tree r a b) j p k)
-    (sym (past-one (r .kind) (r .format) (r .span .start) (r .span .count) p (r .depth) i ((x ++ rows (j + 1 + size a) p b) ++ rest)
+    (sym (same (rows j p (tree r a b) ++ rest) z (suc i) i (entry-past-one (r .kind) (r .format) (r .span .start) (r .span .count) p (r .depth) i z)
     ∙ ap (λ (l : List ℕ). row l i) (append-assoc x (rows (j + 1 + size a) p b) rest)))
-    (go (λ l. stands-in a (j + 1) j i k y l (omega arith)) (λ l. stands-in b (j + 1 + size a) p (i - size a) k rest l) (past x y (size a) i (rows-length (j + 1) j a)) (leb (size a) i) refl)
+    (go (λ l. stands-in a (j + 1) j i k y l (omega arith)) (λ l. stands-in b (j + 1 + size a) p (i - size a) k rest l) (λ l. same (x ++ y) y i (i - size a) (entry-past x y (size a) i (rows-length (j + 1) j a) l)) (leb (size a) i) refl)
   where
     go : {u v : Row} → (i < size a → In a (j + 1) j k u) → (i - size a < size b → k ≡ j + 1 + size a + (i - size a) → In b (j + 1 + size a) p k v)
         → (size a ≤ i → u ≡ v) → (t : Bool) → leb (size a) i ≡ t → In (tree r a b) j p k u
@@ -82,7 +73,7 @@ abbrev pub Placed : Answer → Type 0
 Placed a = a .code ≡ 0 → In-place (a .store) (a .needed)
 
 module _ (s w : List ℕ) where
-  stored-placed : (head : List Value → Header) (o : Out Found) → Told o → ((a : Found) (q : Place) → o ≡ got a q → Nested top 0 (q .at) (a .ranges))
+  stored-placed : (head : List Value → Header) (o : Out Found) → Sure o → ((a : Found) (q : Place) → o ≡ got a q → Nested top 0 (q .at) (a .ranges))
       → ((a : Found) (q : Place) → o ≡ got a q → 4 * size (a .ranges) ≤ length s) → length s ≤ limit → Placed (stored head o w)
   unfolding stored
   stored-placed head (got a q) t n f short =
@@ -100,11 +91,11 @@ module _ (s w : List ℕ) where
   pub one-placed : Placed (one s w)
   unfolding one
   one-placed =
-      within-limit _ (stored-placed header-of (follow datagram s (from 0)) (datagram-told depth-limit s (from 0))
+      within-limit _ (stored-placed header-of (follow datagram s (from 0)) (sure-datagram s (from 0))
       (λ a q e. datagram-nested depth-limit s (from 0) a q (omega arith) e) (one-size s w))
 
   pub run-placed : Placed (run s w)
   unfolding run
   run-placed =
-      within-limit _ (stored-placed (λ _. no-header) (datagrams (length s) s (from 0)) (run-told (length s) s (from 0))
+      within-limit _ (stored-placed (λ _. no-header) (datagrams (length s) s (from 0)) (sure-run (length s) s (from 0))
       (λ a q e. run-nested (length s) s (from 0) a q (omega arith) e) (run-size s w))

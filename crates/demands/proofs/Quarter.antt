@@ -11,11 +11,12 @@ use Rattle.reading.specs.Script.{Value, _⊕_, Found}
 use Rattle.reading.specs.Cursor.{Place, Out, got, stop, then, follow}
 use Rattle.reading.specs.Layout.{only, depth-limit, datagram}
 use Rattle.reading.specs.Answer.{limit, limited, from, size, room, Header, header-of, no-header, Answer, refused, stored, one, tried, datagrams, run}
-use Rattle.reading.proofs.Faults.{either}
+use Rattle.reading.proofs.Items.{either}
 use Rattle.reading.proofs.Bounds.{Owes, owes}
 use Rattle.reading.proofs.Room.{thrifty-datagram}
 use Rattle.reading.proofs.Runs.{run-from, thrifty-run}
-use Rattle.demands.proofs.Codes.{Told, fine, fault, datagram-told, run-told}
+use Rattle.reading.proofs.Faults.{Sure, fine, fault}
+use Rattle.reading.proofs.Codes.{sure-datagram, sure-run}
 
 -- ---- the steps of a run
 
@@ -62,7 +63,7 @@ module _ (s w : List ℕ) (head : List Value → Header) where
   stored-quartered (stop c a n) (halted _ k) h = record { steps = omega arith; needed = omega arith }
 
   -- code 9 is given for want of room alone
-  stored-room : (o : Out Found) → Told o → ((a : Found) (q : Place) → o ≡ got a q → 4 * size (a .ranges) ≤ length s) → length s / 4 ≤ room w → stored head o w .code ≡ 9 → ⊥
+  stored-room : (o : Out Found) → Sure o → ((a : Found) (q : Place) → o ≡ got a q → 4 * size (a .ranges) ≤ length s) → length s / 4 ≤ room w → stored head o w .code ≡ 9 → ⊥
   unfolding stored
   stored-room (got a q) fine h r e =
       let n = h a q refl in
@@ -95,8 +96,8 @@ module _ (s w : List ℕ) where
 
   pub one-room : length s / 4 ≤ room w → one s w .code ≡ 9 → ⊥
   unfolding one
-  one-room r = room-beyond _ (stored-room s w header-of (follow datagram s (from 0)) (datagram-told depth-limit s (from 0)) one-size r)
+  one-room r = room-beyond _ (stored-room s w header-of (follow datagram s (from 0)) (sure-datagram s (from 0)) one-size r)
 
   pub run-room : length s / 4 ≤ room w → run s w .code ≡ 9 → ⊥
   unfolding run
-  run-room r = room-beyond _ (stored-room s w (λ _. no-header) (datagrams (length s) s (from 0)) (run-told (length s) s (from 0)) run-size r)
+  run-room r = room-beyond _ (stored-room s w (λ _. no-header) (datagrams (length s) s (from 0)) (sure-run (length s) s (from 0)) run-size r)

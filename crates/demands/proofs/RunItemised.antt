@@ -17,7 +17,8 @@ use Rattle.reading.proofs.Stands.{place}
 use Rattle.reading.proofs.Runs.{run-from}
 use Rattle.demands.specs.RunItemised.{Run-answers, Run-accepted, Run-itemised, too-long, faulty, no-room, whole}
 use Rattle.demands.proofs.Quarter.{run-size}
-use Rattle.demands.proofs.Codes.{Told, fine, fault, run-told}
+use Rattle.reading.proofs.Faults.{Sure, fine, fault}
+use Rattle.reading.proofs.Codes.{sure-run}
 use Rattle.demands.specs.Tries.{Run, Run-stops}
 use Rattle.demands.proofs.Tried.{Tried, done, halted, run-tried, run-read, run-stopped}
 
@@ -46,7 +47,7 @@ module _ (s w : List ℕ) where
 
   -- ---- where the code is 0
 
-  run-zero : (o : Out Found) → Told o → Tried s (from 0) o → stored (λ _. no-header) o w .code ≡ 0 → Run-accepted s w (stored (λ _. no-header) o w)
+  run-zero : (o : Out Found) → Sure o → Tried s (from 0) o → stored (λ _. no-header) o w .code ≡ 0 → Run-accepted s w (stored (λ _. no-header) o w)
   unfolding stored
   run-zero (stop c i m) (fault k) t z = absurd (omega arith)
   run-zero (got a q) fine (done n e t) z = go (leb (size (a .ranges)) (room w)) refl z (subst (λ (k : ℕ). Run s 0 (a .ranges) (q .at) k) (sym (e ∙ zero-add n)) t)
@@ -61,7 +62,7 @@ module _ (s w : List ℕ) where
     where
       go : (b : Bool) → cond b (stored (λ _. no-header) (datagrams (length s) s (from 0)) w) (refused 1 0 0 0 w) .code ≡ 0
           → Run-accepted s w (cond b (stored (λ _. no-header) (datagrams (length s) s (from 0)) w) (refused 1 0 0 0 w))
-      go true z = run-zero (datagrams (length s) s (from 0)) (run-told (length s) s (from 0)) (run-tried (length s) s (from 0) (omega arith) (omega arith)) z
+      go true z = run-zero (datagrams (length s) s (from 0)) (sure-run (length s) s (from 0)) (run-tried (length s) s (from 0) (omega arith) (omega arith)) z
       go false z = absurd (omega arith)
 
   -- ---- and each of these is answered just so
@@ -102,14 +103,14 @@ module _ (s w : List ℕ) where
 pub run-room-last : (s w : List ℕ) → run s w .code ≡ 9 → (g : Forest) × (end n : ℕ) × Run s 0 g end n × (room w < size g) × (run s w ≡ refused 9 0 n (size g) w)
 run-room-last s w z = go (run s w) (run-itemised s w) z
   where
-    listed : (c i n : ℕ) → Told {A = Found} (stop c i n) → c ≤ 8
+    listed : (c i n : ℕ) → Sure {A = Found} (stop c i n) → c ≤ 8
     listed c i n (fault k) = k .1
 
     go : (a : Answer) → Run-itemised s w a → a .code ≡ 9 → (g : Forest) × (end n : ℕ) × Run s 0 g end n × (room w < size g) × (a ≡ refused 9 0 n (size g) w)
     go a (too-long h f) z = let k = ap (λ (b : Answer). b .code) f in absurd (omega (arith, k, z))
     go a (faulty h c i n m f) z =
         let k = ap (λ (b : Answer). b .code) f in
-        let j = listed c i n (subst Told (run-halt s w m) (run-told (length s) s (from 0))) in
+        let j = listed c i n (subst Sure (run-halt s w m) (sure-run (length s) s (from 0))) in
         absurd (omega (arith, k, z, j))
     go a (no-room h g end n r k f) z = (g, end, n, r, k, f)
     go a (whole h g end n r k) z = absurd (omega (arith, k .code, z))

@@ -5,10 +5,9 @@ use mathlib.Core.List.{List}
 use native.Mathlib.Omega.{arith}
 use lib.ListN.{length, take, drop, length-drop}
 use Rattle.reading.specs.Script.{Found}
-use Rattle.reading.specs.Layout.{depth-limit}
 use Rattle.reading.specs.Answer.{Answer, run}
 use Rattle.reading.proofs.Stands.{drop-take}
-use Rattle.demands.proofs.Codes.{coded-datagram}
+use Rattle.reading.proofs.Codes.{coded-datagram}
 use Rattle.demands.proofs.Unseen.{spans, Same, same-front, unseen}
 use Rattle.demands.specs.Tries.{Datagram-at, Run-stops, this, later}
 use Rattle.demands.specs.RunItemised.{Run-itemised, too-long, faulty, no-room, whole}
@@ -44,7 +43,7 @@ module _ (s t : List ℕ) (i : ℕ) (long : length t ≡ length s) (alike : take
       }
 
   run-alike : {at c n : ℕ} → c ≡ 8 → Run-stops s at c i n → Run-stops t at c i n
-  run-alike {at} e (this l h z) = let k = spans h .0 in this {at = at} (omega (arith, l, long)) (unseen (coded-datagram depth-limit) h e (drop at t) (alike-at at k)) z
+  run-alike {at} e (this l h z) = let k = spans h .0 in this {at = at} (omega (arith, l, long)) (unseen coded-datagram h e (drop at t) (alike-at at k)) z
   run-alike e (later f bytes items m d g r) = later f bytes items m (datagram-alike (run-spans r) d) g (run-alike e r)
 
 -- the answer to s with code 8 is the answer to any t that is as long, and alike before that position

@@ -11,9 +11,10 @@ use lib.Seq.{length-take-le, take-take, take-at, drop-at, take-append-le}
 use Rattle.reading.specs.Bytes.{pads}
 use Rattle.reading.specs.Script.{Item, Script}
 use Rattle.reading.specs.Grammar.{Opaque}
-use Rattle.reading.specs.Layout.{depth-limit, datagram}
+use Rattle.reading.specs.Layout.{datagram}
 use Rattle.reading.proofs.Stands.{drop-take}
-use Rattle.demands.proofs.Codes.{item-listed, test-code, Coded, refuses, stands, reads, opens, repeats, coded-datagram}
+use Rattle.reading.proofs.Faults.{fair-item, test-code, Coded, refuses, stands, reads, opens, repeats}
+use Rattle.reading.proofs.Codes.{coded-datagram}
 use Rattle.demands.specs.Stops.{No-opaque, no-length, too-long, cut, No-item, no-word, no-tested, failed, no-long, no-int, no-block, no-part, no-string, not-utf8, Stops, barred, standing, no-item, past-item, no-opaque, inside-it, past-it, among, past-all}
 
 -- a reading stops no sooner than it starts, and no later than what encloses it ends
@@ -39,7 +40,7 @@ opaque-not-8 (no-length l e) z = omega arith
 opaque-not-8 (too-long f l e) z = omega arith
 opaque-not-8 (cut f l m e) z = omega arith
 
-item-not-8 : {b : List ℕ} {c : ℕ} {i : Item} → No-item b c i → item-listed i ≡ true → c ≡ 8 → ⊥
+item-not-8 : {b : List ℕ} {c : ℕ} {i : Item} → No-item b c i → fair-item i ≡ true → c ≡ 8 → ⊥
 item-not-8 (no-word l e) h z = omega arith
 item-not-8 (no-tested l e) h z = omega arith
 item-not-8 (failed {c = d} f l e) h z = let k = test-code d h in omega (arith, k .1)
@@ -140,4 +141,4 @@ unseen (repeats i k) (past-all x y g m l e f many t) z d h =
     past-all x (drop (length x) d) g m l (same-front h x y e p) f many (unseen (k g) t z (drop (length x) d) (same-back h x y e p))
 
 pub record-unseen : {s : List ℕ} {i n : ℕ} → Stops datagram 0 s 8 i n → (t : List ℕ) → length t ≡ length s → take i t ≡ take i s → Stops datagram 0 t 8 i n
-record-unseen {s} {i} h t l e = unseen (coded-datagram depth-limit) h refl t (record { long = l; alike = rw sub-zero e })
+record-unseen {s} {i} h t l e = unseen (coded-datagram) h refl t (record { long = l; alike = rw sub-zero e })

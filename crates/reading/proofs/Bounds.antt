@@ -8,10 +8,11 @@ use borrow.Author.Tests.{leb-true}
 use lib.Dec.{leb}
 use lib.ListN.{length, take}
 use lib.Seq.{length-take-le}
-use Rattle.reading.specs.Bytes.{be4, padded}
+use Rattle.reading.specs.Bytes.{be4}
 use Rattle.reading.specs.Utf8.{utf8}
 use Rattle.reading.specs.Script.{Width, four, six, eight, sixteen, octet-count, Span, number, part, Found, _&&_, Item, word, tested, long, int, block, opaque, string, Script, give, refuse, here, item, within, repeat}
 use Rattle.reading.specs.Cursor.{Place, Out, got, stop, Reader, then, on, fixed, bytes, read-opaque, read-item, times, inside, follow}
+use Rattle.reading.proofs.Items.{opaque-read, Or-here, refused, opaque-here}
 
 -- what an answer from the place p owes to the input s
 unfoldable pub Owes : {A : Type 0} → List ℕ → Place → Out A → Type 0
@@ -37,17 +38,12 @@ module _ (s : List ℕ) (p : Place) where
       go false t = omega arith
 
   owes-opaque : p .at ≤ length s → Owes s p (read-opaque s p)
-  unfolding read-opaque Owes
-  owes-opaque h = go (leb (p .at + 4) (length s)) refl
+  unfolding Owes
+  owes-opaque h = go (read-opaque s p) refl (opaque-here s p)
     where
-      long? : (n : ℕ) (b : Bool) → Owes s p (cond b (fixed {A = Span} (4 + padded n) (record { start = p .at + 4; count = n }) s p) (stop 5 (p .at) (p .steps)))
-      long? n true = owes-fixed (4 + padded n) _ (omega arith) h
-      long? n false = omega arith
-
-      go : (b : Bool) → leb (p .at + 4) (length s) ≡ b → Owes s p (then (cond b (got (be4 s (p .at)) (on 4 p)) (stop 2 (p .at) (p .steps))) (λ n q.
-          cond (leb n 104857600) (fixed {A = Span} (4 + padded n) (record { start = q .at; count = n }) s p) (stop 5 (p .at) (p .steps))))
-      go true t = long? (be4 s (p .at)) (leb (be4 s (p .at)) 104857600)
-      go false t = omega arith
+      go : (o : Out Span) → read-opaque s p ≡ o → Or-here p o → Owes s p o
+      go (got x q) e i = let r = opaque-read s p x q e in omega (arith, r .fits, r .at, r .steps)
+      go (stop c a n) e (refused k) = omega arith
 
   owes-value : {A B : Type 0} (o : Out A) (f : A → B) → Owes s p o → Owes s p (then o (λ x q. got (f x) q))
   unfolding Owes
@@ -92,22 +88,11 @@ Holds s p (got x q) = (x .start ≡ p .at + 4) × (x .start + x .count ≤ q .at
 Holds s p (stop c a n) = 4 * n + p .at ≤ 4 * p .steps + length s
 
 holds-opaque : (s : List ℕ) (p : Place) → p .at ≤ length s → Holds s p (read-opaque s p)
-unfolding read-opaque
-holds-opaque s p h = go (leb (p .at + 4) (length s))
+holds-opaque s p h = go (read-opaque s p) refl (opaque-here s p)
   where
-    room : (n : ℕ) (b : Bool) → leb (p .at + (4 + padded n)) (length s) ≡ b
-        → Holds s p (cond b (got (record { start = p .at + 4; count = n }) (on (4 + padded n) p)) (stop 2 (p .at) (p .steps)))
-    room n true t = (refl, omega arith, omega (arith, leb-true), refl)
-    room n false t = omega arith
-
-    small : (n : ℕ) (b : Bool) → Holds s p (cond b (fixed {A = Span} (4 + padded n) (record { start = p .at + 4; count = n }) s p) (stop 5 (p .at) (p .steps)))
-    small n true = room n (leb (p .at + (4 + padded n)) (length s)) refl
-    small n false = omega arith
-
-    go : (b : Bool) → Holds s p (then (cond b (got (be4 s (p .at)) (on 4 p)) (stop 2 (p .at) (p .steps))) (λ n q.
-        cond (leb n 104857600) (fixed {A = Span} (4 + padded n) (record { start = q .at; count = n }) s p) (stop 5 (p .at) (p .steps))))
-    go true = small (be4 s (p .at)) (leb (be4 s (p .at)) 104857600)
-    go false = omega arith
+    go : (o : Out Span) → read-opaque s p ≡ o → Or-here p o → Holds s p o
+    go (got x q) e i = let r = opaque-read s p x q e in (r .start, omega (arith, r .start, r .at), omega (arith, r .fits, r .at), r .steps)
+    go (stop c a n) e (refused k) = omega arith
 
 module _ (s : List ℕ) where
   owes-times : (r : Reader Found) → ((p : Place) → p .at ≤ length s → Owes s p (r s p)) → (n : ℕ) (p : Place) → p .at ≤ length s → Owes s p (times n r s p)

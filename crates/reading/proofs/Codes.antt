@@ -1,18 +1,18 @@
--- None of document 01's codes is 0: not that of a layout, of a record, of a datagram or of a run. Assumes nothing.
+-- The code of a layout, a record, a datagram or a run that is refused is one of 2 to 8, and so never 0. Assumes nothing.
 use Prim.Native.Nat.{ℕ, zero, suc}
 use mathlib.Core.Path.{_≡_, refl}
-use mathlib.Core.Bool.{Bool, true, false}
+use mathlib.Core.Bool.{true}
 use mathlib.Core.List.{List, [], _∷_}
 use native.Mathlib.Omega.{arith}
 use lib.Dec.{eqb, leb}
 use lib.ListN.{length}
-use Rattle.reading.specs.Utf8.{_&_}
 use Rattle.reading.specs.Script.{Value, Found, Script}
 use Rattle.reading.specs.Cursor.{Place, Out, stop, follow}
 use Rattle.reading.specs.Layout.{num, Field, plain, mac, addr, list, segments, address-of, run-of, field, fields, Row, _⟼_, _⟼_each_, opened, framed, flows, flow, counter, samples, datagram-to, depth-limit, datagram}
 use Rattle.reading.specs.Values.{alone}
-use Rattle.reading.specs.Answer.{tried, datagrams, layout-at, layout-of}
-use Rattle.reading.proofs.Faults.{fair-field, fair, Coded, gives, refuses, stands, reads, opens, repeats, Sure, fine, fault, sure-then, either, sure, not-zero, stop-coded}
+use Rattle.reading.specs.Answer.{run-ender, tried, datagrams, layout-at, layout-of}
+use Rattle.reading.proofs.Items.{either}
+use Rattle.reading.proofs.Faults.{both, fair-field, fair, Coded, gives, refuses, stands, reads, opens, repeats, Sure, fine, fault, sure-then, sure, not-zero, stop-coded}
 
 -- ---- fields
 
@@ -34,10 +34,6 @@ coded-field addr e h = reads refl (λ t. coded-address h (num t))
 coded-field list e h = coded-run (reads refl (λ v. gives)) h
 coded-field segments e h = coded-run (reads refl (λ v. coded-run (reads refl (λ w. gives)) (λ w. gives))) h
 
-both : (a b : Bool) → a & b ≡ true → (a ≡ true) × (b ≡ true)
-both true b h = (refl, h)
-both false b h = let z : _≡_ {A = ℕ} 0 1 = cc in absurd (omega arith)
-
 pub coded-fields : {k : List Value → Script} (l : List Field) → fair l ≡ true → ((vs : List Value) → Coded (k vs)) → Coded (fields l k)
 unfolding fields
 coded-fields [] e h = h []
@@ -49,7 +45,7 @@ reading-coded l e = stop-coded (coded-fields l e (λ vs. gives))
 
 -- ---- tables
 
--- rows none of whose codes is 0
+-- rows whose codes are
 data Rows : List Row → Type 0 where
   none : Rows []
   flat : {g : ℕ} {l : List Field} {rest : List Row} → fair l ≡ true → Rows rest → Rows ((g ⟼ l) ∷ rest)
@@ -77,7 +73,7 @@ coded-framed h = reads refl (λ f. opens (h (num f)) (λ x a. gives))
 
 pub coded-flow : (limit left : ℕ) → Coded (flow limit left)
 unfolding flow
-coded-flow limit zero = refuses {c = 8} (omega arith)
+coded-flow limit zero = refuses {c = 8} (omega arith, omega arith)
 coded-flow limit (suc left) = coded-framed (coded-opened (coded-flows (reads refl (λ n. stands (λ a. repeats (coded-flow limit left) (λ r. stands (λ e. gives)))))))
 
 coded-samples : (limit : ℕ) → Rows (samples limit)
@@ -101,18 +97,21 @@ pub coded-datagram : Coded datagram
 unfolding datagram-to
 coded-datagram = stands (λ a. coded-fields _ refl (λ vs. repeats (coded-framed (coded-opened (coded-samples depth-limit))) (λ r. stands (λ e. gives))))
 
+pub sure-datagram : (s : List ℕ) (p : Place) → Sure (follow datagram s p)
+sure-datagram = sure coded-datagram
+
 pub datagram-coded : {c a n : ℕ} (s : List ℕ) (p : Place) → follow datagram s p ≡ stop c a n → c ≡ 0 → ⊥
 datagram-coded = stop-coded coded-datagram
 
 sure-tried : {o : Out Found} (p : Place) (on : Place → Out Found) → Sure o → ((q : Place) → Sure (on q)) → Sure (tried o p on)
 unfolding tried
 sure-tried p on (fine {p = q}) h = sure-then (h q) (λ f e. fine)
-sure-tried p on (fault {c} z) h = either Sure (eqb c 2) fine (fault z)
+sure-tried p on (fault {c} k) h = either Sure (eqb c run-ender) fine (fault k)
 
-sure-run : (fuel : ℕ) (s : List ℕ) (p : Place) → Sure (datagrams fuel s p)
+pub sure-run : (fuel : ℕ) (s : List ℕ) (p : Place) → Sure (datagrams fuel s p)
 unfolding datagrams
 sure-run zero s p = fine
-sure-run (suc fuel) s p = either Sure (leb (length s) (p .at)) fine (sure-tried p _ (sure coded-datagram s p) (λ q. sure-run fuel s q))
+sure-run (suc fuel) s p = either Sure (leb (length s) (p .at)) fine (sure-tried p _ (sure-datagram s p) (λ q. sure-run fuel s q))
 
 pub run-coded : {c a n : ℕ} (fuel : ℕ) (s : List ℕ) (p : Place) → datagrams fuel s p ≡ stop c a n → c ≡ 0 → ⊥
 run-coded fuel s p = not-zero (sure-run fuel s p)

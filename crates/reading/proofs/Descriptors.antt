@@ -14,7 +14,7 @@ use Rattle.reading.specs.Cursor.{Place, Out, got, stop, follow}
 use Rattle.reading.specs.Layout.{between, datagram}
 use Rattle.reading.specs.Answer.{limit, limited, from, nobody, size, rows, room, Header, header-of, no-header, Answer, refused, stored, one, datagrams, run, layout-of, Fields, answered, read}
 use Rattle.reading.proofs.Fields.{reads-shown}
-use Rattle.reading.proofs.Faults.{either}
+use Rattle.reading.proofs.Items.{either}
 use Rattle.reading.proofs.Codes.{datagram-coded, run-coded}
 use Rattle.reading.proofs.Stored.{rows-length}
 use Rattle.reading.proofs.Holding.{read-here, Fields-of, Holds, Readable, also}
@@ -81,33 +81,30 @@ entry w i k = getD w (6 * i + k) 0
 unfoldable pub descriptor : (store : List ℕ) → (index : ℕ) → Range
 descriptor w i = record { kind = entry w i 0; format = entry w i 1; span = record { start = entry w i 2; count = entry w i 3 }; depth = entry w i 5 }
 
+-- past the first, and past other descriptors
+pub entry-past-one : (a b c d e f i : ℕ) (l : List ℕ) (k : ℕ) → entry (a ∷ b ∷ c ∷ d ∷ e ∷ f ∷ l) (suc i) k ≡ entry l i k
+entry-past-one a b c d e f i l k = ap (λ (n : ℕ). getD (a ∷ b ∷ c ∷ d ∷ e ∷ f ∷ l) n 0) {x = 6 * suc i + k} {y = suc (suc (suc (suc (suc (suc (6 * i + k))))))} (omega arith)
+
+pub entry-past : (l m : List ℕ) (n i : ℕ) → length l ≡ 6 * n → n ≤ i → (k : ℕ) → entry (l ++ m) i k ≡ entry m (i - n) k
+entry-past l m n i e h k = ap (λ (j : ℕ). getD (l ++ m) j 0) {x = 6 * i + k} {y = length l + (6 * (i - n) + k)} (omega arith) ∙ getD-append-add l m (6 * (i - n) + k) 0
+
 same : (v w : List ℕ) (i j : ℕ) → ((k : ℕ) → entry v i k ≡ entry w j k) → descriptor v i ≡ descriptor w j
 unfolding descriptor
 same v w i j e = λ t. record { kind = e 0 t; format = e 1 t; span = record { start = e 2 t; count = e 3 t }; depth = e 5 t }
 
--- past the first, and past other descriptors
-past-one : (a b c d e f i : ℕ) (l : List ℕ) → descriptor (a ∷ b ∷ c ∷ d ∷ e ∷ f ∷ l) (suc i) ≡ descriptor l i
-past-one a b c d e f i l =
-    same (a ∷ b ∷ c ∷ d ∷ e ∷ f ∷ l) l (suc i) i (λ k.
-    ap (λ (n : ℕ). getD (a ∷ b ∷ c ∷ d ∷ e ∷ f ∷ l) n 0) {x = 6 * suc i + k} {y = suc (suc (suc (suc (suc (suc (6 * i + k))))))} (omega arith))
-
-past : (l m : List ℕ) (n i : ℕ) → length l ≡ 6 * n → n ≤ i → descriptor (l ++ m) i ≡ descriptor m (i - n)
-past l m n i e h =
-    same (l ++ m) m i (i - n) (λ k.
-    ap (λ (j : ℕ). getD (l ++ m) j 0) {x = 6 * i + k} {y = length l + (6 * (i - n) + k)} (omega arith) ∙ getD-append-add l m (6 * (i - n) + k) 0)
-
 -- each descriptor is a range, whatever stands behind them
-stands-in : (f : Forest) (j p i : ℕ) (rest : List ℕ) → i < size f → (inner : Forest) × Among (descriptor (rows j p f ++ rest) i) inner f
+pub stands-in : (f : Forest) (j p i : ℕ) (rest : List ℕ) → i < size f → (inner : Forest) × Among (descriptor (rows j p f ++ rest) i) inner f
 unfolding rows size descriptor
 stands-in bare j p i rest h = absurd (omega arith)
 stands-in (tree r a b) j p zero rest h = (a, this)
 stands-in (tree r a b) j p (suc i) rest h =
     let x = rows (j + 1) j a in
     let y = rows (j + 1 + size a) p b ++ rest in
+    let z = (x ++ rows (j + 1 + size a) p b) ++ rest in
     go (stands-in a (j + 1) j i y) (stands-in b (j + 1 + size a) p (i - size a) rest)
-    (past-one (r .kind) (r .format) (r .span .start) (r .span .count) p (r .depth) i ((x ++ rows (j + 1 + size a) p b) ++ rest)
+    (same (rows j p (tree r a b) ++ rest) z (suc i) i (entry-past-one (r .kind) (r .format) (r .span .start) (r .span .count) p (r .depth) i z)
     ∙ ap (λ (l : List ℕ). descriptor l i) (append-assoc x (rows (j + 1 + size a) p b) rest))
-    (past x y (size a) i (rows-length (j + 1) j a)) (leb (size a) i) refl
+    (λ l. same (x ++ y) y i (i - size a) (entry-past x y (size a) i (rows-length (j + 1) j a) l)) (leb (size a) i) refl
   where
     go : {d u v : Range} → (i < size a → (inner : Forest) × Among u inner a) → (i - size a < size b → (inner : Forest) × Among v inner b)
         → d ≡ u → (size a ≤ i → u ≡ v) → (t : Bool) → leb (size a) i ≡ t → (inner : Forest) × Among d inner (tree r a b)

@@ -9,7 +9,7 @@ use lib.Dec.{leb}
 use lib.ListN.{length}
 use Rattle.reading.specs.Bytes.{be4, padded}
 use Rattle.reading.specs.Script.{Span, number, word, tested}
-use Rattle.reading.specs.Cursor.{Place, Out, got, stop, then, on, fixed, read-opaque, read-item}
+use Rattle.reading.specs.Cursor.{Place, Out, got, stop, then, on, fixed, max-opaque, read-opaque, read-item}
 
 -- a refusal is no answer
 pub never : {A B : Type 0} {c a n : ℕ} {x : A} {q : Place} → _≡_ {A = Out A} (stop c a n) (got x q) → B
@@ -26,16 +26,24 @@ pub split : {A B : Type 0} (o : Out A) (k : A → Place → Out B) {b : B} {e : 
 split (got a p) k h = record { value = a; place = p; first = refl; second = h }
 split (stop c a n) k h = never h
 
+-- what holds of both branches
+pub either : {A : Type 0} (P : A → Type 0) (b : Bool) {x y : A} → P x → P y → P (cond b x y)
+either P true h g = h
+either P false h g = g
+
+-- a test that would have refused, and did not, was passed
+passed : {A : Type 0} (t : Bool) (o : Out A) (c a n : ℕ) {x : A} {q : Place} → cond t o (stop c a n) ≡ got x q → (t ≡ true) × (o ≡ got x q)
+passed true o c a n e = (refl, e)
+passed false o c a n e = never e
+
 -- an item of n bytes that was read: it was there
 pub fixed-read : {A : Type 0} (n : ℕ) (a : A) (s : List ℕ) (p : Place) {b : A} {q : Place} → fixed n a s p ≡ got b q
     → (p .at + n ≤ length s) × (b ≡ a) × (q .at ≡ p .at + n) × (q .steps ≡ p .steps + 1)
 unfolding fixed
-fixed-read {A} n a s p {b} {q} h = go (leb (p .at + n) (length s)) refl h
-  where
-    go : (t : Bool) → leb (p .at + n) (length s) ≡ t → cond t (got a (on n p)) (stop 2 (p .at) (p .steps)) ≡ got b q
-        → (p .at + n ≤ length s) × (b ≡ a) × (q .at ≡ p .at + n) × (q .steps ≡ p .steps + 1)
-    go true t e = (leb-true _ _ t, cc, cc, cc)
-    go false t e = never e
+fixed-read {A} n a s p {b} {q} h =
+    let r = passed (leb (p .at + n) (length s)) _ _ _ _ h in
+    let e : got a (on n p) ≡ got b q = r .1 in
+    (leb-true _ _ (r .0), cc, cc, cc)
 
 -- whether an item of n bytes is there does not hang on its value
 module _ (s : List ℕ) (p : Place) (n : ℕ) {A B : Type 0} (a : A) (b : B) where
@@ -102,15 +110,35 @@ pub opaque-read : (s : List ℕ) (p : Place) (x : Span) (q : Place) → read-opa
 unfolding read-opaque
 opaque-read s p x q h =
     let w = split (fixed 4 (be4 s (p .at)) s p) _ h in
+    let n = w .value in
     let f = fixed-read 4 (be4 s (p .at)) s p (w .first) in
-    go (w .value) (w .place) (f .1) (f .2) (leb (w .value) 104857600) refl (w .second)
-  where
-    go : (n : ℕ) (e : Place) → n ≡ be4 s (p .at) → e .at ≡ p .at + 4 → (t : Bool) → leb n 104857600 ≡ t
-        → cond t (fixed {A = Span} (4 + padded n) (record { start = e .at; count = n }) s p) (stop 5 (p .at) (p .steps)) ≡ got x q → Opaque-read s p x q
-    go n e is at true t k =
-        let g = fixed-read {A = Span} (4 + padded n) (record { start = e .at; count = n }) s p k in
-        let c : x .count ≡ n = ap (λ (y : Span). y .count) (g .1) in
-        let b : x .start ≡ e .at = ap (λ (y : Span). y .start) (g .1) in
-        let l : n ≤ 104857600 = leb-true _ _ t in
-        record { small = rw c l; count = sym is ∙ sym c; fits = rw c (g .0); start = b ∙ at; at = rw c (g .2); steps = g .3 }
-    go n e is at false t k = never k
+    let r = passed (leb n max-opaque) _ _ _ _ (w .second) in
+    let g = fixed-read {A = Span} (4 + padded n) (record { start = w .place .at; count = n }) s p (r .1) in
+    let c : x .count ≡ n = ap (λ (y : Span). y .count) (g .1) in
+    let b : x .start ≡ w .place .at = ap (λ (y : Span). y .start) (g .1) in
+    let l : n ≤ max-opaque = leb-true _ _ (r .0) in
+    record { small = rw c (omega arith); count = sym (f .1) ∙ sym c; fits = rw c (g .0); start = b ∙ f .2; at = rw c (g .2); steps = g .3 }
+
+-- ---- where an item is refused
+
+-- the codes that a reading may be refused with
+abbrev pub Code : ℕ → Type 0
+Code c = (2 ≤ c) × (c ≤ 8)
+
+-- something is given, or there is a refusal at p
+pub data Or-here (p : Place) {A : Type 0} : Out A → Type 0 where
+  given : {a : A} {q : Place} → Or-here p (got a q)
+  refused : {c : ℕ} → Code c → Or-here p (stop c (p .at) (p .steps))
+
+here-then : {A B : Type 0} {p : Place} {o : Out A} {k : A → Place → Out B} → Or-here p o → ((a : A) (q : Place) → Or-here p (k a q)) → Or-here p (then o k)
+here-then (given {a} {q}) h = h a q
+here-then (refused c) h = refused c
+
+module _ (s : List ℕ) (p : Place) where
+  pub fixed-here : {A : Type 0} (n : ℕ) (a : A) → Or-here p (fixed n a s p)
+  unfolding fixed
+  fixed-here n a = either (Or-here p) (leb (p .at + n) (length s)) given (refused (omega arith, omega arith))
+
+  pub opaque-here : Or-here p (read-opaque s p)
+  unfolding read-opaque
+  opaque-here = here-then (fixed-here 4 _) (λ n q. either (Or-here p) (leb n max-opaque) (fixed-here (4 + padded n) _) (refused (omega arith, omega arith)))

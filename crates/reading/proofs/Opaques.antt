@@ -1,27 +1,21 @@
 -- An opaque by its length word, and a string by its opaque. Assumes nothing.
 use Prim.Native.Nat.{ℕ, _+_, _-_, _≤_, _<_}
 use mathlib.Core.Path.{_≡_, sym, ap, _∙_}
-use mathlib.Core.Bool.{Bool, true, false, cond}
+use mathlib.Core.Bool.{true, false, cond}
 use mathlib.Core.List.{List}
 use native.Mathlib.Omega.{arith}
 use borrow.Author.Tests.{le-leb, lt-leb}
-use lib.Dec.{leb}
 use lib.ListN.{length}
 use Rattle.reading.specs.Bytes.{be4, padded}
 use Rattle.reading.specs.Utf8.{utf8}
-use Rattle.reading.specs.Script.{Span, number, part, word, opaque, string}
-use Rattle.reading.specs.Cursor.{Place, Out, got, stop, then, on, fixed, max-opaque, bytes, read-opaque, read-item}
-use Rattle.reading.proofs.Items.{never, split, word-seen, opaque-read}
+use Rattle.reading.specs.Script.{Span, number, part, Found, word, opaque, string, Script, within}
+use Rattle.reading.specs.Cursor.{Place, Out, got, stop, then, fixed, max-opaque, bytes, read-opaque, read-item, follow}
+use Rattle.reading.proofs.Items.{never, split, fixed-stops, word-seen, opaque-read}
 
 module _ (s : List ℕ) (p : Place) where
   pub opaque-cut : {c a n : ℕ} → stop c a n ≡ read-item word s p → stop c a n ≡ read-item opaque s p
   unfolding read-item
-  opaque-cut {c} {a} {n} e = go (leb (p .at + 4) (length s)) e
-    where
-      go : (b : Bool) → stop c a n ≡ cond b (got (number (be4 s (p .at))) (on 4 p)) (stop 2 (p .at) (p .steps))
-          → stop c a n ≡ then (then (cond b (got (be4 s (p .at)) (on 4 p)) (stop 2 (p .at) (p .steps))) (λ n q. cond (leb n max-opaque) (fixed {A = Span} (4 + padded n) (record { start = q .at; count = n }) s p) (stop 5 (p .at) (p .steps)))) (λ x q. got (part x) q)
-      go true h = never h
-      go false h = cc
+  opaque-cut e = rw (← fixed-stops s p 4 (number (be4 s (p .at))) (be4 s (p .at)) e)
 
   module _ {n : ℕ} {q : Place} (e : got (number n) q ≡ read-item word s p) where
     pub opaque-long : max-opaque < n → stop 5 (p .at) (p .steps) ≡ read-item opaque s p
@@ -53,6 +47,12 @@ module _ (s : List ℕ) (p : Place) where
       let h : got (part (w .value)) (w .place) ≡ got (part x) q = w .second in
       let i : w .value ≡ x = cc in
       rw (← i) (rw (r .start) (omega (arith, r .fits)))
+
+  -- it is read whole before anything in it: where its payload or its pad is not there it is refused at its length word, whatever it holds
+  pub whole-first : (body : Script) (k : Span → Found → Script) → p .at + 4 ≤ length s → be4 s (p .at) ≤ max-opaque → length s < p .at + (4 + padded (be4 s (p .at)))
+      → follow (within body k) s p ≡ stop 2 (p .at) (p .steps)
+  unfolding follow fixed
+  whole-first body k a b c = rw (le-leb _ _ a, le-leb _ _ b, lt-leb _ _ c)
 
   pub string-cut : {c a n : ℕ} → stop c a n ≡ read-item opaque s p → stop c a n ≡ read-item string s p
   unfolding read-item

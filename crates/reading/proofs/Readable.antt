@@ -9,12 +9,11 @@ use lib.ListN.{length, take}
 use Rattle.reading.specs.Script.{Value, Range, Forest, Found, nothing, Script, give}
 use Rattle.reading.specs.Cursor.{Place, Out, got, stop, Reader, times, follow}
 use Rattle.reading.specs.Layout.{Field, fields, Row, _⟼_, _⟼_each_, last-number, opened, ranged, between, framed, pdu, flows, flow, counter, samples, sample, header, depth-limit, datagram}
-use Rattle.reading.specs.Answer.{from, tried, datagrams, layout-of}
-use Rattle.reading.proofs.Items.{never, split}
+use Rattle.reading.specs.Answer.{from, run-ender, tried, datagrams, layout-of}
+use Rattle.reading.proofs.Items.{never, split, either}
 use Rattle.reading.proofs.Stands.{place}
 use Rattle.reading.proofs.Steps.{unstepped}
 use Rattle.reading.proofs.Fields.{fields-out, fields-then}
-use Rattle.reading.proofs.Faults.{either}
 use Rattle.reading.proofs.Counts.{repeat-is}
 use Rattle.reading.proofs.Frames.{Frame, frame-read, span-fits, pdu-read}
 use Rattle.reading.proofs.Room.{whole, datagram-is, datagram-on}
@@ -167,7 +166,7 @@ run-readable (suc fuel) s p {a} {q} h e = go (λ r b v. run-readable fuel s r {a
     go again false (got d r) f e =
         let v = split (datagrams fuel s r) _ e in
         ranges-are (v .second) (joined (accepted-readable s p h f) (again r (v .value) (v .place) (datagram-on depth-limit s p h f .1) (v .first)))
-    go again false (stop c i n) f e = ends (eqb c 2) e
+    go again false (stop c i n) f e = ends (eqb c run-ender) e
       where
         ends : (t : Bool) → cond t (got nothing (record { at = p .at; steps = n })) (stop c i n) ≡ got a q → Readable s (a .ranges)
         ends true e = ranges-are e none

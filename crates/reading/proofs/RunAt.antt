@@ -10,7 +10,7 @@ use lib.ListN.{length}
 use Rattle.reading.specs.Script.{Forest, bare, _⊕_, Found, nothing}
 use Rattle.reading.specs.Cursor.{Place, Out, got, stop, then, follow}
 use Rattle.reading.specs.Layout.{only, depth-limit, datagram}
-use Rattle.reading.specs.Answer.{from, tried}
+use Rattle.reading.specs.Answer.{from, run-ender, tried}
 use Rattle.reading.proofs.Items.{split}
 use Rattle.reading.proofs.Room.{last-place, datagram-on}
 use Rattle.reading.proofs.Places.{Accepted, accepted, ranges-of, end-of, stopped, given, alike-accepted, alike-ranges, alike-end}
@@ -27,7 +27,7 @@ module _ (s : List ℕ) (at : ℕ) (i : at ≤ length s) (g : Accepted (run-from
   -- what a datagram that was not read leaves of a run
   ended : (c a n : ℕ) → Accepted (tried (stop c a n) (from at) (run-from s)) → tried (stop c a n) (from at) (run-from s) ≡ got nothing (record { at = at; steps = n })
   unfolding tried
-  ended c a n h = go (eqb c 2) h
+  ended c a n h = go (eqb c run-ender) h
     where
       go : (b : Bool) → Accepted (cond b (got nothing (record { at = at; steps = n })) (stop c a n)) → cond b (got nothing (record { at = at; steps = n })) (stop c a n) ≡ got nothing (record { at = at; steps = n })
       go true h = refl

@@ -10,7 +10,7 @@ use lib.ListN.{length}
 use Rattle.reading.specs.Script.{_⊕_, Found, nothing}
 use Rattle.reading.specs.Cursor.{Place, Out, got, stop, then, follow}
 use Rattle.reading.specs.Layout.{only, depth-limit, datagram}
-use Rattle.reading.specs.Answer.{size, from, tried, datagrams}
+use Rattle.reading.specs.Answer.{size, from, run-ender, tried, datagrams}
 use Rattle.reading.proofs.Items.{never, split}
 use Rattle.reading.proofs.Steps.{Alike, both-got, both-stop, Steady, alike-then, alike-cond, steady}
 use Rattle.reading.proofs.Counts.{counted, size-joined}
@@ -106,7 +106,7 @@ module _ (s : List ℕ) where
   alike-tried : {o u : Out Found} (p q : Place) (f g : Place → Out Found) → p .at ≡ q .at → Alike o u → ((i j : Place) → i .at ≡ j .at → Alike (f i) (g j)) → Alike (tried o p f) (tried u q g)
   unfolding tried
   alike-tried p q f g e (both-got {p = i} {q = j} h) k = alike-then _ _ (k i j h) (λ b u v w. both-got w)
-  alike-tried p q f g e (both-stop {c}) k = alike-cond (eqb c 2) (both-got e) both-stop
+  alike-tried p q f g e (both-stop {c}) k = alike-cond (eqb c run-ender) (both-got e) both-stop
 
   steady-datagrams : (n : ℕ) → Steady (datagrams n s)
   unfolding datagrams
@@ -137,7 +137,7 @@ module _ (s : List ℕ) where
           let x : only (d .ranges ⊕ v .value .ranges) ≡ a = cc in
           let z = ap (λ (r : Place). r .at) (last-place g) in
           (rw (← x, size-joined) (omega (arith, i, j .0, z)), omega (arith, j .1, z))
-      go again false (stop c i k) f e = ends (eqb c 2) e
+      go again false (stop c i k) f e = ends (eqb c run-ender) e
         where
           ends : (b : Bool) → cond b (got nothing (record { at = p .at; steps = k })) (stop c i k) ≡ got a q → (4 * size (a .ranges) + p .at ≤ q .at) × (q .at ≤ length s)
           ends true e = none (record { at = p .at; steps = k }) a q h e

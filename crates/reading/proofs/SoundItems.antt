@@ -44,8 +44,8 @@ module _ (s : List ℕ) (o n : ℕ) (fits : o + (4 + padded n) ≤ length s) (co
     joined = take-add 4 (padded n) (drop o s) ∙ ap (λ (t : List ℕ). take 4 (drop o s) ++ t) (ap (λ (t : List ℕ). take (padded n) t) (drop-drop 4 o s) ∙ take-add n (pads n) (drop (o + 4) s) ∙ ap (λ (t : List ℕ). take n (drop (o + 4) s) ++ take (pads n) t) (drop-drop n (o + 4) s));
     four = cut-length s o 4 (omega arith);
     counts = sym (be4-here o (cut s o 4 (omega arith)) (rw (cut-length s o 4 (omega arith)) (omega arith))) ∙ count ∙ sym held-length;
-    small = rw held-length small;
-    filled = cut-length s (o + 4 + n) (pads n) (omega arith) ∙ ap pads (sym held-length);
+    small = rw held-length (omega arith);
+    filled = omega (arith, cut-length s (o + 4 + n) (pads n) (omega arith), held-length);
   }
 
 -- an opaque's item, from what was read of it

@@ -39,15 +39,10 @@ module _ (s : List ℕ) (p q : Place) (e : p .at ≡ q .at) where
 
   alike-opaque : Alike (read-opaque s p) (read-opaque s q)
   unfolding read-opaque
-  alike-opaque = rw e (go (leb (q .at + 4) (length s)))
+  alike-opaque = rw e (alike-then _ _ (go 4 (be4 s (q .at))) (λ n i j h. rw h (alike-cond (leb n max-opaque) (go (4 + padded n) (record { start = j .at; count = n })) both-stop)))
     where
-      go : (b : Bool) → Alike {A = Span}
-          (then (cond b (got (be4 s (q .at)) (record { at = q .at + 4; steps = p .steps + 1 })) (stop 2 (q .at) (p .steps)))
-          (λ n r. cond (leb n max-opaque) (cond (leb (q .at + (4 + padded n)) (length s)) (got (record { start = r .at; count = n }) (record { at = q .at + (4 + padded n); steps = p .steps + 1 })) (stop 2 (q .at) (p .steps))) (stop 5 (q .at) (p .steps))))
-          (then (cond b (got (be4 s (q .at)) (on 4 q)) (stop 2 (q .at) (q .steps)))
-          (λ n r. cond (leb n max-opaque) (cond (leb (q .at + (4 + padded n)) (length s)) (got (record { start = r .at; count = n }) (record { at = q .at + (4 + padded n); steps = q .steps + 1 })) (stop 2 (q .at) (q .steps))) (stop 5 (q .at) (q .steps))))
-      go true = alike-cond (leb (be4 s (q .at)) max-opaque) (alike-cond (leb (q .at + (4 + padded (be4 s (q .at)))) (length s)) (both-got refl) both-stop) both-stop
-      go false = both-stop
+      go : {A : Type 0} (n : ℕ) (a : A) → Alike (cond (leb (q .at + n) (length s)) (got a (record { at = q .at + n; steps = on n p .steps })) (stop 2 (q .at) (p .steps))) (fixed n a s q)
+      go n a = alike-cond (leb (q .at + n) (length s)) (both-got refl) both-stop
 
   alike-item : (i : Item) → Alike (read-item i s p) (read-item i s q)
   unfolding read-item

@@ -88,7 +88,7 @@ pub rows-length : (i p : ℕ) (f : Forest) → length (rows i p f) ≡ 6 * size 
 unfolding rows size
 rows-length i p bare = refl
 rows-length i p (tree r inner after) =
-    let a = rows-length (i + 1) i inner in
+    let a : (q : ℕ) → length (rows (i + 1) q inner) ≡ 6 * size inner = λ q. rows-length (i + 1) q inner in
     let b = rows-length (i + 1 + size inner) p after in
     simp (length-append, a, b) (omega arith)
 
@@ -98,8 +98,7 @@ rows-joined i p bare g = ap (λ (k : ℕ). rows k p g) (sym (add-zero i))
 rows-joined i p (tree r inner after) g =
     let k : i + 1 + size inner + size after ≡ i + (1 + size inner + size after) = omega arith in
     let e : rows (i + 1 + size inner) p (after ⊕ g) ≡ rows (i + 1 + size inner) p after ++ rows (i + (1 + size inner + size after)) p g = rows-joined (i + 1 + size inner) p after g ∙ ap (λ (m : ℕ). rows (i + 1 + size inner) p after ++ rows m p g) k in
-    ap (λ (t : List ℕ). r .kind ∷ r .format ∷ r .span .start ∷ r .span .count ∷ p ∷ r .depth ∷ rows (i + 1) i inner ++ t) e
-    ∙ ap (λ (t : List ℕ). r .kind ∷ r .format ∷ r .span .start ∷ r .span .count ∷ p ∷ r .depth ∷ t) (sym (append-assoc (rows (i + 1) i inner) (rows (i + 1 + size inner) p after) (rows (i + (1 + size inner + size after)) p g)))
+    simp (e, append-assoc)
 
 -- one range: its own six words, and those of what is inside it
 pub rows-one : (i p : ℕ) (r : Range) (inner : Forest) → rows i p (tree r inner bare) ≡ (r .kind ∷ r .format ∷ r .span .start ∷ r .span .count ∷ p ∷ r .depth ∷ []) ++ rows (i + 1) i inner

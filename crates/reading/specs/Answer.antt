@@ -108,10 +108,14 @@ one s w = limited s (stored header-of (follow datagram s (from 0)) w) (refused 1
 
 -- ---- a run of datagrams
 
--- what a run makes of a datagram tried at p: `on` reads the rest of the run. Code 2 ends the run, and that datagram has no descriptors
+-- the code that ends a run, and does not refuse it
+abbrev pub run-ender : ℕ
+run-ender = 2
+
+-- what a run makes of a datagram tried at p: `on` reads the rest of the run. A datagram that ends the run has no descriptors
 unfoldable pub tried : Out Found → Place → (Place → Out Found) → Out Found
 tried (got d q) p on = then (on q) (λ f e. got (only (d .ranges ⊕ f .ranges)) e)
-tried (stop c a n) p on = cond (eqb c 2) (got nothing (record { at = p .at; steps = n })) (stop c a n)
+tried (stop c a n) p on = cond (eqb c run-ender) (got nothing (record { at = p .at; steps = n })) (stop c a n)
 
 -- datagrams up to the end of the input; `fuel` bounds their number
 unfoldable pub datagrams : (fuel : ℕ) → Reader Found
