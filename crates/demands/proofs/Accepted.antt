@@ -46,7 +46,7 @@ module _ (s : List ℕ) where
       let r = accepted-is-read s a (q .at) (q .steps) e in
       record {
         reading = record { levels = depth-limit; read = r .read; rest = r .rest; joined = r .joined; long = r .long; is = r .is };
-        shallow = no-deeper depth-limit 0 (r .read) a (q .steps) (r .is);
+        shallow = deeper _ (omega arith) (no-deeper depth-limit 0 (r .read) a (q .steps) (r .is));
       }
 
   -- the answer to an accepted reading

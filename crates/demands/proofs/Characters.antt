@@ -3,20 +3,13 @@ use Prim.Native.Nat.{ℕ, _≤_}
 use mathlib.Core.Path.{_≡_, refl, ap}
 use mathlib.Core.Bool.{Bool, true, false}
 use mathlib.Core.List.{List, [], _∷_, _++_}
-use native.Mathlib.Omega.{arith}
 use borrow.Author.Tests.{le-leb}
 use Rattle.reading.specs.Utf8.{_&_, _or_, among, tail, utf8-1, utf8-2, utf8-3, utf8-4, utf8}
 use Rattle.reading.proofs.Utf8.{among-bounds}
+use Rattle.reading.proofs.Faults.{both}
 use Rattle.demands.specs.Abnf.{Byte, byte, _⨾_, joined, _∣_, first, second, none, more, UTF8-3, UTF8-4, UTF8-char, UTF8-octets}
 
 -- ---- tests, by what they say
-
-false-true : {A : Type 0} → false ≡ true → A
-false-true e = let z : _≡_ {A = ℕ} 0 1 = cc in absurd (omega arith)
-
-both : (x y : Bool) → (x & y) ≡ true → (x ≡ true) × (y ≡ true)
-both true y h = (refl, h)
-both false y h = false-true h
 
 and : {x y : Bool} → x ≡ true → y ≡ true → (x & y) ≡ true
 and {x} {y} e f = rw (e, f)
@@ -40,64 +33,8 @@ in-range lo hi b h k = rw (le-leb lo b h, le-leb b hi k)
 a-byte : (lo hi b : ℕ) → among lo hi b ≡ true → Byte lo hi (b ∷ [])
 a-byte lo hi b h = let r = among-bounds lo hi b h in byte b (r .0) (r .1)
 
--- ---- a row of bytes
+-- ---- what is by the rules passes the test
 
--- two, three and four ranges in a row
-two-bytes : (l h m k a b : ℕ) → (among l h a & among m k b) ≡ true → (Byte l h ⨾ Byte m k) (a ∷ b ∷ [])
-two-bytes l h m k a b e = let r = both _ _ e in joined (a-byte l h a (r .0)) (a-byte m k b (r .1))
-
-three-bytes : (l h m k n j a b c : ℕ) → (among l h a & among m k b & among n j c) ≡ true → (Byte l h ⨾ Byte m k ⨾ Byte n j) (a ∷ b ∷ c ∷ [])
-three-bytes l h m k n j a b c e = let r = both _ _ e in joined (a-byte l h a (r .0)) (two-bytes m k n j b c (r .1))
-
-four-bytes : (l h m k n j p q a b c d : ℕ) → (among l h a & among m k b & among n j c & among p q d) ≡ true → (Byte l h ⨾ Byte m k ⨾ Byte n j ⨾ Byte p q) (a ∷ b ∷ c ∷ d ∷ [])
-four-bytes l h m k n j p q a b c d e = let r = both _ _ e in joined (a-byte l h a (r .0)) (three-bytes m k n j p q b c d (r .1))
-
--- a row of a rule, by its ranges
-row : (x y : Bool) {P Q : List ℕ → Type 0} {l : List ℕ} → (x ≡ true → P l) → (y ≡ true → Q l) → (x or y) ≡ true → (P ∣ Q) l
-row x y f g = choose x y (λ e. first (f e)) (λ e. second (g e))
-
-rule-3 : (a b c : ℕ) → utf8-3 a b c ≡ true → UTF8-3 (a ∷ b ∷ c ∷ [])
-rule-3 a b c =
-    row _ _ (three-bytes 0xe0 0xe0 0xa0 0xbf 0x80 0xbf a b c)
-    (row _ _ (three-bytes 0xe1 0xec 0x80 0xbf 0x80 0xbf a b c)
-    (row _ _ (three-bytes 0xed 0xed 0x80 0x9f 0x80 0xbf a b c) (three-bytes 0xee 0xef 0x80 0xbf 0x80 0xbf a b c)))
-
-rule-4 : (a b c d : ℕ) → utf8-4 a b c d ≡ true → UTF8-4 (a ∷ b ∷ c ∷ d ∷ [])
-rule-4 a b c d =
-    row _ _ (four-bytes 0xf0 0xf0 0x90 0xbf 0x80 0xbf 0x80 0xbf a b c d)
-    (row _ _ (four-bytes 0xf1 0xf3 0x80 0xbf 0x80 0xbf 0x80 0xbf a b c d) (four-bytes 0xf4 0xf4 0x80 0x8f 0x80 0xbf 0x80 0xbf a b c d))
-
--- a character in front
-module _ (s : List ℕ) (a : ℕ) where
-  char-1 : utf8-1 a ≡ true → UTF8-octets s → UTF8-octets (a ∷ s)
-  char-1 e t = more {x = a ∷ []} (first (a-byte 0x00 0x7f a e)) t
-
-  char-2 : (b : ℕ) → utf8-2 a b ≡ true → UTF8-octets s → UTF8-octets (a ∷ b ∷ s)
-  char-2 b e t = more {x = a ∷ b ∷ []} (second (first (two-bytes 0xc2 0xdf 0x80 0xbf a b e))) t
-
-  char-3 : (b c : ℕ) → utf8-3 a b c ≡ true → UTF8-octets s → UTF8-octets (a ∷ b ∷ c ∷ s)
-  char-3 b c e t = more {x = a ∷ b ∷ c ∷ []} (second (second (first (rule-3 a b c e)))) t
-
-  char-4 : (b c d : ℕ) → utf8-4 a b c d ≡ true → UTF8-octets s → UTF8-octets (a ∷ b ∷ c ∷ d ∷ s)
-  char-4 b c d e t = more {x = a ∷ b ∷ c ∷ d ∷ []} (second (second (second (rule-4 a b c d e)))) t
-
--- ---- what passes the test is by the rules
-pub test-by-rules : (s : List ℕ) → utf8 s ≡ true → UTF8-octets s
-unfolding utf8
-test-by-rules [] h = none
-test-by-rules (a ∷ []) h = char-1 [] a h none
-test-by-rules (a ∷ b ∷ []) h =
-    choose _ _ (λ e. let r = both (utf8-1 a) _ e in char-1 (b ∷ []) a (r .0) (test-by-rules (b ∷ []) (r .1))) (λ e. char-2 [] a b e none) h
-test-by-rules (a ∷ b ∷ c ∷ []) h =
-    choose _ _ (λ e. let r = both (utf8-1 a) _ e in char-1 (b ∷ c ∷ []) a (r .0) (test-by-rules (b ∷ c ∷ []) (r .1)))
-    (choose _ _ (λ e. let r = both (utf8-2 a b) _ e in char-2 (c ∷ []) a b (r .0) (test-by-rules (c ∷ []) (r .1))) (λ e. char-3 [] a b c e none)) h
-test-by-rules (a ∷ b ∷ c ∷ d ∷ s) h =
-    choose _ _ (λ e. let r = both (utf8-1 a) _ e in char-1 (b ∷ c ∷ d ∷ s) a (r .0) (test-by-rules (b ∷ c ∷ d ∷ s) (r .1)))
-    (choose _ _ (λ e. let r = both (utf8-2 a b) _ e in char-2 (c ∷ d ∷ s) a b (r .0) (test-by-rules (c ∷ d ∷ s) (r .1)))
-    (choose _ _ (λ e. let r = both (utf8-3 a b c) _ e in char-3 (d ∷ s) a b c (r .0) (test-by-rules (d ∷ s) (r .1)))
-    (λ e. let r = both (utf8-4 a b c d) _ e in char-4 s a b c d (r .0) (test-by-rules s (r .1))))) h
-
--- ---- and what is by the rules passes it
 two-of : {l h m k : ℕ} {x : List ℕ} → (Byte l h ⨾ Byte m k) x → (a b : ℕ) × (x ≡ a ∷ b ∷ []) × ((among l h a & among m k b) ≡ true)
 two-of {l} {h} {m} {k} (joined (byte a p q) (byte b u v)) = (a, b, refl, and (in-range l h a p q) (in-range m k b u v))
 
@@ -189,3 +126,59 @@ pub rules-by-test : {s : List ℕ} → UTF8-octets s → utf8 s ≡ true
 unfolding utf8
 rules-by-test none = refl
 rules-by-test (more {y = y} p t) = char-passes y p (rules-by-test t)
+
+-- ---- and what passes it is by the rules
+
+-- two, three and four ranges in a row
+two-bytes : (l h m k a b : ℕ) → (among l h a & among m k b) ≡ true → (Byte l h ⨾ Byte m k) (a ∷ b ∷ [])
+two-bytes l h m k a b e = let r = both _ _ e in joined (a-byte l h a (r .0)) (a-byte m k b (r .1))
+
+three-bytes : (l h m k n j a b c : ℕ) → (among l h a & among m k b & among n j c) ≡ true → (Byte l h ⨾ Byte m k ⨾ Byte n j) (a ∷ b ∷ c ∷ [])
+three-bytes l h m k n j a b c e = let r = both _ _ e in joined (a-byte l h a (r .0)) (two-bytes m k n j b c (r .1))
+
+four-bytes : (l h m k n j p q a b c d : ℕ) → (among l h a & among m k b & among n j c & among p q d) ≡ true → (Byte l h ⨾ Byte m k ⨾ Byte n j ⨾ Byte p q) (a ∷ b ∷ c ∷ d ∷ [])
+four-bytes l h m k n j p q a b c d e = let r = both _ _ e in joined (a-byte l h a (r .0)) (three-bytes m k n j p q b c d (r .1))
+
+-- a row of a rule, by its ranges
+row : (x y : Bool) {P Q : List ℕ → Type 0} {l : List ℕ} → (x ≡ true → P l) → (y ≡ true → Q l) → (x or y) ≡ true → (P ∣ Q) l
+row x y f g = choose x y (λ e. first (f e)) (λ e. second (g e))
+
+rule-3 : (a b c : ℕ) → utf8-3 a b c ≡ true → UTF8-3 (a ∷ b ∷ c ∷ [])
+rule-3 a b c =
+    row _ _ (three-bytes 0xe0 0xe0 0xa0 0xbf 0x80 0xbf a b c)
+    (row _ _ (three-bytes 0xe1 0xec 0x80 0xbf 0x80 0xbf a b c)
+    (row _ _ (three-bytes 0xed 0xed 0x80 0x9f 0x80 0xbf a b c) (three-bytes 0xee 0xef 0x80 0xbf 0x80 0xbf a b c)))
+
+rule-4 : (a b c d : ℕ) → utf8-4 a b c d ≡ true → UTF8-4 (a ∷ b ∷ c ∷ d ∷ [])
+rule-4 a b c d =
+    row _ _ (four-bytes 0xf0 0xf0 0x90 0xbf 0x80 0xbf 0x80 0xbf a b c d)
+    (row _ _ (four-bytes 0xf1 0xf3 0x80 0xbf 0x80 0xbf 0x80 0xbf a b c d) (four-bytes 0xf4 0xf4 0x80 0x8f 0x80 0xbf 0x80 0xbf a b c d))
+
+-- a character in front
+module _ (s : List ℕ) (a : ℕ) where
+  char-1 : utf8-1 a ≡ true → UTF8-octets s → UTF8-octets (a ∷ s)
+  char-1 e t = more {x = a ∷ []} (first (a-byte 0x00 0x7f a e)) t
+
+  char-2 : (b : ℕ) → utf8-2 a b ≡ true → UTF8-octets s → UTF8-octets (a ∷ b ∷ s)
+  char-2 b e t = more {x = a ∷ b ∷ []} (second (first (two-bytes 0xc2 0xdf 0x80 0xbf a b e))) t
+
+  char-3 : (b c : ℕ) → utf8-3 a b c ≡ true → UTF8-octets s → UTF8-octets (a ∷ b ∷ c ∷ s)
+  char-3 b c e t = more {x = a ∷ b ∷ c ∷ []} (second (second (first (rule-3 a b c e)))) t
+
+  char-4 : (b c d : ℕ) → utf8-4 a b c d ≡ true → UTF8-octets s → UTF8-octets (a ∷ b ∷ c ∷ d ∷ s)
+  char-4 b c d e t = more {x = a ∷ b ∷ c ∷ d ∷ []} (second (second (second (rule-4 a b c d e)))) t
+
+pub test-by-rules : (s : List ℕ) → utf8 s ≡ true → UTF8-octets s
+unfolding utf8
+test-by-rules [] h = none
+test-by-rules (a ∷ []) h = char-1 [] a h none
+test-by-rules (a ∷ b ∷ []) h =
+    choose _ _ (λ e. let r = both (utf8-1 a) _ e in char-1 (b ∷ []) a (r .0) (test-by-rules (b ∷ []) (r .1))) (λ e. char-2 [] a b e none) h
+test-by-rules (a ∷ b ∷ c ∷ []) h =
+    choose _ _ (λ e. let r = both (utf8-1 a) _ e in char-1 (b ∷ c ∷ []) a (r .0) (test-by-rules (b ∷ c ∷ []) (r .1)))
+    (choose _ _ (λ e. let r = both (utf8-2 a b) _ e in char-2 (c ∷ []) a b (r .0) (test-by-rules (c ∷ []) (r .1))) (λ e. char-3 [] a b c e none)) h
+test-by-rules (a ∷ b ∷ c ∷ d ∷ s) h =
+    choose _ _ (λ e. let r = both (utf8-1 a) _ e in char-1 (b ∷ c ∷ d ∷ s) a (r .0) (test-by-rules (b ∷ c ∷ d ∷ s) (r .1)))
+    (choose _ _ (λ e. let r = both (utf8-2 a b) _ e in char-2 (c ∷ d ∷ s) a b (r .0) (test-by-rules (c ∷ d ∷ s) (r .1)))
+    (choose _ _ (λ e. let r = both (utf8-3 a b c) _ e in char-3 (d ∷ s) a b c (r .0) (test-by-rules (d ∷ s) (r .1)))
+    (λ e. let r = both (utf8-4 a b c d) _ e in char-4 s a b c d (r .0) (test-by-rules s (r .1))))) h

@@ -7,6 +7,7 @@ pub mod Depths
 pub mod Limit
 pub mod Accepted
 pub mod Fielded
+pub mod Opened
 pub mod Pieces
 pub mod Enclosed
 pub mod Stopped

@@ -17,6 +17,7 @@ use Rattle.reading.specs.Grammar.{Opaque, Is-item, Many, Is}
 use Rattle.reading.proofs.Items.{never}
 use Rattle.reading.proofs.Stands.{Stands, payload-there, bytes-there}
 use Rattle.reading.proofs.Sound.{sound}
+use Rattle.demands.proofs.Opened.{opens}
 use Rattle.demands.specs.Stops.{No-opaque, no-length, too-long, cut, No-item, no-word, no-tested, failed, no-long, no-int, no-block, no-part, no-string, not-utf8}
 
 pub behind : {s x y : List ℕ} (o : ℕ) → Stands s o x y → drop (o + length x) s ≡ y
@@ -155,7 +156,7 @@ module _ (s : List ℕ) (p : Place) (i : p .at ≤ length s) {c a n : ℕ} where
           parts (y, o, v) =
               let z : x ≡ record { start = p .at + 4; count = length y } = cc in
               let g : bytes s x ≡ y = ap (bytes s) z ∙ bytes-there (p .at + 4) (payload-there (p .at) o (there .stands) .1) in
-              record { why = not-utf8 y (there .read) (there .rest) (there .stands .there) o (ap utf8 (sym g) ∙ t) cc; at = cc; steps = cc }
+              record { why = not-utf8 y (opens (there .rest) (there .stands .there) o) (ap utf8 (sym g) ∙ t) cc; at = cc; steps = cc }
 
   pub item-short : (k : Item) → read-item k s p ≡ stop c a n → At-once (λ d. No-item (drop (p .at) s) d k) p c a n
   unfolding read-item

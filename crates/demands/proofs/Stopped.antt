@@ -14,6 +14,7 @@ use Rattle.reading.proofs.Stands.{place, Stands}
 use Rattle.reading.proofs.Sound.{sound}
 use Rattle.reading.proofs.SoundRows.{Read}
 use Rattle.demands.specs.Stops.{Stops, barred, standing, no-item, past-item, no-opaque, inside-it, past-it, among, past-all}
+use Rattle.demands.proofs.Opened.{opens}
 use Rattle.demands.proofs.Pieces.{behind, Item-there, item-there, Many-there, many-there, stop-as, opaque-short, item-short}
 use Rattle.demands.proofs.Enclosed.{Span-there, span-there, held, held-is, held-fits, some}
 
@@ -60,7 +61,7 @@ module _ (body : Script) (k : Span → Found → Script) (inner : Halts body) (i
       record {
         items = 1 + r .items;
         steps = omega (arith, r .steps, t .steps);
-        stops = inside-it (t .payload) (t .read) (t .rest) (r .items) (t .stands .there) refl (t .is) (moved refl (held-is t) (r .stops));
+        stops = inside-it (t .payload) (r .items) refl (opens (t .rest) (t .stands .there) (t .is)) (moved refl (held-is t) (r .stops));
       }
 
   within-past : {s : List ℕ} {p q : Place} {x : Span} {c a n : ℕ} {f : Found} {i : Place} (t : Span-there s p x q)

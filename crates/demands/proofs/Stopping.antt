@@ -16,6 +16,7 @@ use Rattle.reading.proofs.Stands.{place, Stands, opaque-there, payload-there, b
 use Rattle.reading.proofs.Complete.{complete}
 use Rattle.reading.proofs.Counts.{repeat-is}
 use Rattle.demands.specs.Stops.{No-opaque, no-length, too-long, cut, No-item, no-word, no-tested, failed, no-long, no-int, no-block, no-part, no-string, not-utf8}
+use Rattle.demands.proofs.Opened.{begins}
 use Rattle.demands.proofs.Pieces.{behind, word-drop, shown, same-shown}
 
 -- b is what is left of s at o
@@ -73,10 +74,11 @@ module _ {s b : List ℕ} {o : ℕ} (h : Left s o b) (k : ℕ) where
   item-missing (no-block {w} l e) = rw e (fixed-missing (octet-count w) _ l)
   item-missing (no-part n) = rw (opaque-missing n)
   item-missing (no-string n) = rw (opaque-missing n)
-  item-missing (not-utf8 x u y e q t z) =
-      let st = part-stands u y e h in
-      let g : bytes s (record { start = o + 4; count = length x }) ≡ x = bytes-there (o + 4) (payload-there o q st .1) in
-      rw (opaque-there o k q st, g, t, z)
+  item-missing (not-utf8 x q t z) =
+      let b = begins q in
+      let st = part-stands (b .read) (b .rest) (b .joined) h in
+      let g : bytes s (record { start = o + 4; count = length x }) ≡ x = bytes-there (o + 4) (payload-there o (b .is) st .1) in
+      rw (opaque-there o k (b .is) st, g, t, z)
 
 -- an item that is there
 pub item-read : (i : Item) {s x y : List ℕ} {v : Value} (o k : ℕ) → Is-item i o x v → Stands s o x y → read-item i s (place o k) ≡ got v (place (o + length x) (k + 1))

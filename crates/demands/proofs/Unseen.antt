@@ -3,19 +3,17 @@
 use Prim.Native.Nat.{ℕ, _+_, _-_, _≤_}
 use mathlib.Core.Path.{_≡_, refl, sym, ap, _∙_}
 use mathlib.Core.Bool.{true}
-use mathlib.Core.List.{List, _++_, append-assoc}
+use mathlib.Core.List.{List, _++_}
 use native.Mathlib.Omega.{arith}
 use native.Mathlib.Nat.{sub-zero}
 use lib.ListN.{length, take, drop, length-append, length-drop, take-append-drop}
 use lib.Seq.{length-take-le, take-take, take-at, drop-at, take-append-le}
-use Rattle.reading.specs.Bytes.{pads}
 use Rattle.reading.specs.Script.{Item, Script}
-use Rattle.reading.specs.Grammar.{Opaque}
 use Rattle.reading.specs.Layout.{datagram}
 use Rattle.reading.proofs.Stands.{drop-take}
 use Rattle.reading.proofs.Faults.{fair-item, test-code, Coded, refuses, stands, reads, opens, repeats}
 use Rattle.reading.proofs.Codes.{coded-datagram}
-use Rattle.demands.specs.Stops.{No-opaque, no-length, too-long, cut, No-item, no-word, no-tested, failed, no-long, no-int, no-block, no-part, no-string, not-utf8, Stops, barred, standing, no-item, past-item, no-opaque, inside-it, past-it, among, past-all}
+use Rattle.demands.specs.Stops.{No-opaque, no-length, too-long, cut, Opens, No-item, no-word, no-tested, failed, no-long, no-int, no-block, no-part, no-string, not-utf8, Stops, barred, standing, no-item, past-item, no-opaque, inside-it, past-it, among, past-all}
 
 -- a reading stops no sooner than it starts, and no later than what encloses it ends
 pub spans : {sc : Script} {o c a n : ℕ} {b : List ℕ} → Stops sc o b c a n → (o ≤ a) × (a ≤ o + length b)
@@ -24,12 +22,11 @@ spans (standing t) = spans t
 spans (no-item m e f) = (omega arith, omega arith)
 spans (past-item x y v m e f ix t) = let r = spans t in let l = ap length e ∙ length-append x y in (omega (arith, r .0), omega (arith, r .1, l))
 spans (no-opaque m e f) = (omega arith, omega arith)
-spans (inside-it x u y m e f q t) =
+spans (inside-it x m f q t) =
     let r = spans t in
-    let l = ap length e ∙ length-append u y in
-    let k = ap length (q .joined) ∙ length-append (q .size) (x ++ q .pad) in
-    let j = length-append x (q .pad) in
-    (omega (arith, r .0), omega (arith, r .1, l, k, j, q .four))
+    let l = ap length (q .joined) ∙ length-append (q .size) (x ++ q .rest) in
+    let k = length-append x (q .rest) in
+    (omega (arith, r .0), omega (arith, r .1, l, k, q .four))
 spans (past-it x u y inner rest g m l e f q ex ib t) = let r = spans t in let k = ap length e ∙ length-append u y in (omega (arith, r .0), omega (arith, r .1, k))
 spans (among j x y g m l lt e f many t) = let r = spans t in let k = ap length e ∙ length-append x y in (omega (arith, r .0), omega (arith, r .1, k))
 spans (past-all x y g m l e f many t) = let r = spans t in let k = ap length e ∙ length-append x y in (omega (arith, r .0), omega (arith, r .1, k))
@@ -49,7 +46,7 @@ item-not-8 (no-int l e) h z = omega arith
 item-not-8 (no-block l e) h z = omega arith
 item-not-8 (no-part n) h z = opaque-not-8 n z
 item-not-8 (no-string n) h z = opaque-not-8 n z
-item-not-8 (not-utf8 x u y e q t z) h k = omega arith
+item-not-8 (not-utf8 x q t z) h k = omega arith
 
 -- ---- two byte strings from o on that are alike before a
 
@@ -81,39 +78,34 @@ module _ {o a : ℕ} {b d : List ℕ} (h : Same o a b d) (x y : List ℕ) (e : b
 -- an opaque that a lies in: its length word is in both, and its payloads are alike
 record Payload-alike (o a : ℕ) (x d : List ℕ) : Type 0 where
   payload : List ℕ
-  read : List ℕ
-  rest : List ℕ
-  joined : d ≡ read ++ rest
-  is : Opaque payload read
+  is : Opens payload d
   same : Same (o + 4) a x payload
 
-payload-alike : {o a : ℕ} {b d x u : List ℕ} (y : List ℕ) → Same o a b d → b ≡ u ++ y → Opaque x u → o + 4 ≤ a → a ≤ o + 4 + length x → Payload-alike o a x d
-payload-alike {o} {a} {b} {d} {x} {u} y h e q l m =
-    let r = (x ++ q .pad) ++ y in
-    let e′ : b ≡ q .size ++ r = e ∙ ap (λ (t : List ℕ). t ++ y) (q .joined) ∙ append-assoc (q .size) (x ++ q .pad) y in
+payload-alike : {o a : ℕ} {b d x : List ℕ} → Same o a b d → Opens x b → o + 4 ≤ a → a ≤ o + 4 + length x → Payload-alike o a x d
+payload-alike {o} {a} {b} {d} {x} h q l m =
     let k : o + length (q .size) ≤ a = omega (arith, q .four) in
-    cut-out (drop (length (q .size)) d) (same-front h (q .size) r e′ k) (same-back h (q .size) r e′ k)
+    cut-out (drop (length (q .size)) d) (same-front h (q .size) (x ++ q .rest) (q .joined) k) (same-back h (q .size) (x ++ q .rest) (q .joined) k)
   where
-    cut-out : (t : List ℕ) → d ≡ q .size ++ t → Same (o + length (q .size)) a ((x ++ q .pad) ++ y) t → Payload-alike o a x d
+    cut-out : (t : List ℕ) → d ≡ q .size ++ t → Same (o + length (q .size)) a (x ++ q .rest) t → Payload-alike o a x d
     cut-out t f g =
-        let i = length-append (x ++ q .pad) y in
-        let j = length-append x (q .pad) in
-        let n : length (take (length x) t) ≡ length x = length-take-le (length x) t (omega (arith, g .long, i, j)) in
-        let v = drop (length x) t in
-        let p : length (take (length (q .pad)) v) ≡ length (q .pad) = length-take-le (length (q .pad)) v (omega (arith, g .long, i, j, length-drop (length x) t)) in
+        let i = length-append x (q .rest) in
+        let n : length (take (length x) t) ≡ length x = length-take-le (length x) t (omega (arith, g .long, i)) in
         let c : a - (o + 4) ≡ a - (o + length (q .size)) = omega (arith, q .four) in
         record {
           payload = take (length x) t;
-          read = q .size ++ (take (length x) t ++ take (length (q .pad)) v);
-          rest = drop (length (q .pad)) v;
-          joined = f
-              ∙ ap (λ (z : List ℕ). q .size ++ z) (sym (take-append-drop (length x) t) ∙ ap (λ (z : List ℕ). take (length x) t ++ z) (sym (take-append-drop (length (q .pad)) v)) ∙ sym (append-assoc (take (length x) t) (take (length (q .pad)) v) (drop (length (q .pad)) v)))
-              ∙ sym (append-assoc (q .size) (take (length x) t ++ take (length (q .pad)) v) (drop (length (q .pad)) v));
-          is = record { size = q .size; pad = take (length (q .pad)) v; joined = refl; four = q .four; counts = q .counts ∙ sym n; small = rw n (q .small); filled = p ∙ q .filled ∙ ap pads (sym n) };
+          is = record {
+            size = q .size;
+            rest = drop (length x) t;
+            joined = f ∙ ap (λ (z : List ℕ). q .size ++ z) (sym (take-append-drop (length x) t));
+            four = q .four;
+            counts = q .counts ∙ sym n;
+            small = rw n (q .small);
+            filled = omega (arith, n, i, g .long, length-drop (length x) t, q .filled);
+          };
           same = record {
             long = n;
-            alike = take-take (a - (o + 4)) (length x) t (omega arith) ∙ ap (λ (z : ℕ). take z t) c ∙ g .alike ∙ ap (λ (z : ℕ). take z ((x ++ q .pad) ++ y)) (sym c)
-                ∙ take-append-le (a - (o + 4)) (x ++ q .pad) y (omega (arith, j)) ∙ take-append-le (a - (o + 4)) x (q .pad) (omega arith);
+            alike = take-take (a - (o + 4)) (length x) t (omega arith) ∙ ap (λ (z : ℕ). take z t) c ∙ g .alike ∙ ap (λ (z : ℕ). take z (x ++ q .rest)) (sym c)
+                ∙ take-append-le (a - (o + 4)) x (q .rest) (omega arith);
           };
         }
 
@@ -126,10 +118,10 @@ unseen (reads i k) (past-item x y v m e f ix t) z d h =
     let l = spans t .0 in
     past-item x (drop (length x) d) v m (same-front h x y e l) f ix (unseen (k v) t z (drop (length x) d) (same-back h x y e l))
 unseen (opens i k) (no-opaque m e f) z d h = absurd (opaque-not-8 m z)
-unseen (opens i k) (inside-it x u y m e f q t) z d h =
+unseen (opens i k) (inside-it x m f q t) z d h =
     let r = spans t in
-    let w = payload-alike y h e q (r .0) (r .1) in
-    inside-it (w .payload) (w .read) (w .rest) m (w .joined) f (w .is) (unseen i t z (w .payload) (w .same))
+    let w = payload-alike h q (r .0) (r .1) in
+    inside-it (w .payload) m f (w .is) (unseen i t z (w .payload) (w .same))
 unseen (opens i k) (past-it x u y inner rest g m l e f q ex ib t) z d h =
     let p = spans t .0 in
     past-it x u (drop (length u) d) inner rest g m l (same-front h u y e p) f q ex ib (unseen (k _ g) t z (drop (length u) d) (same-back h u y e p))

@@ -5,7 +5,7 @@ use mathlib.Core.Path.{_≡_}
 use mathlib.Core.Bool.{Bool, false}
 use mathlib.Core.List.{List, _++_}
 use lib.ListN.{length}
-use Rattle.reading.specs.Bytes.{be4, padded}
+use Rattle.reading.specs.Bytes.{be4, pads, padded}
 use Rattle.reading.specs.Utf8.{utf8}
 use Rattle.reading.specs.Script.{Width, octet-count, Span, Value, Found, Item, word, tested, long, int, block, opaque, string, Script, refuse, here, item, within, repeat}
 use Rattle.reading.specs.Grammar.{Opaque, Is-item, Many, Is}
@@ -16,7 +16,17 @@ pub data No-opaque (b : List ℕ) (code : ℕ) : Type 0 where
   too-long : 4 ≤ length b → 104857600 < be4 b 0 → code ≡ 5 → No-opaque b code
   cut : 4 ≤ length b → be4 b 0 ≤ 104857600 → length b < 4 + padded (be4 b 0) → code ≡ 2 → No-opaque b code
 
--- nor with this item
+-- b begins with an opaque that holds x: a word that counts x, then x, then at least its pad, of any value
+pub record Opens (x b : List ℕ) : Type 0 where
+  pub size : List ℕ
+  pub rest : List ℕ
+  pub joined : b ≡ size ++ (x ++ rest)
+  pub four : length size ≡ 4
+  pub counts : be4 size 0 ≡ length x
+  pub small : length x ≤ 104857600
+  pub filled : pads (length x) ≤ length rest
+
+-- b does not begin with this item: this is the code
 pub data No-item (b : List ℕ) (code : ℕ) : Item → Type 0 where
   no-word : length b < 4 → code ≡ 2 → No-item b code word
   no-tested : {ok : ℕ → Bool} {c : ℕ} → length b < 4 → code ≡ 2 → No-item b code (tested ok c)
@@ -26,7 +36,7 @@ pub data No-item (b : List ℕ) (code : ℕ) : Item → Type 0 where
   no-block : {w : Width} → length b < octet-count w → code ≡ 2 → No-item b code (block w)
   no-part : No-opaque b code → No-item b code opaque
   no-string : No-opaque b code → No-item b code string
-  not-utf8 : (x u y : List ℕ) → b ≡ u ++ y → Opaque x u → utf8 x ≡ false → code ≡ 7 → No-item b code string
+  not-utf8 : (x : List ℕ) → Opens x b → utf8 x ≡ false → code ≡ 7 → No-item b code string
 
 -- a script that starts at o, with b left of what encloses it, stops with this code at this position, after so many items
 pub data Stops : Script → (o : ℕ) → (b : List ℕ) → (code at items : ℕ) → Type 0 where
@@ -39,8 +49,8 @@ pub data Stops : Script → (o : ℕ) → (b : List ℕ) → (code at items : �
       → Is-item i o x v → Stops (k v) (o + length x) y code at m → Stops (item i k) o b code at n
   -- the next item is no opaque; or it is one, and the reading stops inside it, where its payload encloses it; or behind it
   no-opaque : {body : Script} {k : Span → Found → Script} {o code at n : ℕ} {b : List ℕ} → No-opaque b code → at ≡ o → n ≡ 0 → Stops (within body k) o b code at n
-  inside-it : {body : Script} {k : Span → Found → Script} {o code at n : ℕ} {b : List ℕ} (x u y : List ℕ) (m : ℕ) → b ≡ u ++ y → n ≡ 1 + m
-      → Opaque x u → Stops body (o + 4) x code at m → Stops (within body k) o b code at n
+  inside-it : {body : Script} {k : Span → Found → Script} {o code at n : ℕ} {b : List ℕ} (x : List ℕ) (m : ℕ) → n ≡ 1 + m
+      → (q : Opens x b) → Stops body (o + 4) x code at m → Stops (within body k) o b code at n
   past-it : {body : Script} {k : Span → Found → Script} {o code at n : ℕ} {b : List ℕ} (x u y inner rest : List ℕ) (a : Found) (m l : ℕ) → b ≡ u ++ y → n ≡ 1 + m + l
       → Opaque x u → x ≡ inner ++ rest → Is body (o + 4) inner a m
       → Stops (k (record { start = o + 4; count = length x }) a) (o + length u) y code at l → Stops (within body k) o b code at n
