@@ -6,13 +6,12 @@ use mathlib.Core.List.{List}
 use native.Mathlib.Omega.{arith}
 use borrow.Author.Tests.{leb-true}
 use lib.Dec.{leb}
-use lib.ListN.{length, take}
-use lib.Seq.{length-take-le}
+use lib.ListN.{length}
 use Rattle.reading.specs.Bytes.{be4}
 use Rattle.reading.specs.Utf8.{utf8}
 use Rattle.reading.specs.Script.{Width, four, six, eight, sixteen, octet-count, Span, number, part, Found, _&&_, Item, word, tested, long, int, block, opaque, string, Script, give, refuse, here, item, within, repeat}
-use Rattle.reading.specs.Cursor.{Place, Out, got, stop, Reader, then, on, fixed, bytes, read-opaque, read-item, times, inside, follow}
-use Rattle.reading.proofs.Items.{opaque-read, Or-here, refused, opaque-here}
+use Rattle.reading.specs.Cursor.{Place, Out, got, stop, Reader, then, on, fixed, bytes, read-opaque, read-item, times, held-to, inside, follow}
+use Rattle.reading.proofs.Items.{held-to-end, opaque-read, Or-here, refused, opaque-here}
 
 -- what an answer from the place p owes to the input s
 unfoldable pub Owes : {A : Type 0} → List ℕ → Place → Out A → Type 0
@@ -102,16 +101,16 @@ module _ (s : List ℕ) where
 
   -- a reading inside an opaque owes to the payload; with the opaque's own word it owes to what the opaque passed
   owes-within : (p : Place) (o : Out Span) → Holds s p o
-      → (r : Reader Found) → ((x : Span) (q : Place) → q .at ≤ length (take (x .start + x .count) s) → Owes (take (x .start + x .count) s) q (r (take (x .start + x .count) s) q))
+      → (r : Reader Found) → ((x : Span) (q : Place) → q .at ≤ length (held-to x s) → Owes (held-to x s) q (r (held-to x s) q))
       → (k : Span → Found → Place → Out Found) → ((x : Span) (a : Found) (q : Place) → q .at ≤ length s → Owes s q (k x a q))
       → Owes s p (then o (λ x q. then (inside x r s q) (λ a e. k x a e)))
   unfolding inside Owes
   owes-within p (stop c a n) h r f k g = h
   owes-within p (got x q) h r f k g =
-      let e : length (take (x .start + x .count) s) ≡ x .start + x .count = length-take-le (x .start + x .count) s (omega arith) in
-      go (r (take (x .start + x .count) s) (record { at = x .start; steps = q .steps })) (f x (record { at = x .start; steps = q .steps }) (omega arith)) e
+      let e : length (held-to x s) ≡ x .start + x .count = held-to-end x s (omega arith) in
+      go (r (held-to x s) (record { at = x .start; steps = q .steps })) (f x (record { at = x .start; steps = q .steps }) (omega arith)) e
     where
-      go : (o : Out Found) → Owes (take (x .start + x .count) s) (record { at = x .start; steps = q .steps }) o → length (take (x .start + x .count) s) ≡ x .start + x .count
+      go : (o : Out Found) → Owes (held-to x s) (record { at = x .start; steps = q .steps }) o → length (held-to x s) ≡ x .start + x .count
           → Owes s p (then (then o (λ a e. got a (record { at = q .at; steps = e .steps }))) (λ a e. k x a e))
       go (stop c a n) w e = omega arith
       go (got a i) w e = last (k x a (record { at = q .at; steps = i .steps })) (g x a (record { at = q .at; steps = i .steps }) (omega arith))
@@ -126,5 +125,5 @@ owes (give a) s p h = (omega arith, h, omega arith)
 owes (refuse code) s p h = omega arith
 owes (here k) s p h = owes (k (p .at)) s p h
 owes (item i k) s p h = owes-then s p (read-item i s p) _ (owes-item s p i h) (λ v q j. owes (k v) s q j)
-owes (within body k) s p h = owes-within s p (read-opaque s p) (holds-opaque s p h) (follow body) (λ x q j. owes body (take (x .start + x .count) s) q j) (λ x a q. follow (k x a) s q) (λ x a q j. owes (k x a) s q j)
+owes (within body k) s p h = owes-within s p (read-opaque s p) (holds-opaque s p h) (follow body) (λ x q j. owes body (held-to x s) q j) (λ x a q. follow (k x a) s q) (λ x a q j. owes (k x a) s q j)
 owes (repeat n body k) s p h = owes-then s p (times n (follow body) s p) _ (owes-times s (follow body) (λ q j. owes body s q j) n p h) (λ a q j. owes (k a) s q j)

@@ -4,9 +4,8 @@ use mathlib.Core.Path.{_≡_, refl, sym, ap, _∙_}
 use mathlib.Core.List.{List}
 use native.Mathlib.Omega.{arith}
 use native.Mathlib.Nat.{add-zero, add-assoc}
-use lib.ListN.{take}
 use Rattle.reading.specs.Script.{Span, Value, number, part, Forest, bare, tree, _⊕_, Found, nothing, _&&_, word, opaque, Script, give, repeat}
-use Rattle.reading.specs.Cursor.{Place, Out, got, stop, Reader, then, read-opaque, read-item, times, inside, follow}
+use Rattle.reading.specs.Cursor.{Place, Out, got, stop, Reader, then, read-opaque, read-item, times, held-to, inside, follow}
 use Rattle.reading.specs.Layout.{num, Field, fields, last-number, only, ranged, between, framed, pdu}
 use Rattle.reading.specs.Answer.{size}
 use Rattle.reading.proofs.Items.{never}
@@ -132,9 +131,9 @@ module _ (kind depth : ℕ) (body : ℕ → Script) (s : List ℕ) (p : Place) (
   frame-stop e = sym (rw (framed-is, ← e))
 
   pub frame-held : {f : ℕ} {x : Span} {r : Place} → got (framing f x) r ≡ frame-at s p
-      → counted k (follow (framed kind depth body) s p) ≡ resumed (r .at) (counted (k + 1) (follow (body f) (take (x .start + x .count) s) (place (x .start) (r .steps))))
+      → counted k (follow (framed kind depth body) s p) ≡ resumed (r .at) (counted (k + 1) (follow (body f) (held-to x s) (place (x .start) (r .steps))))
   unfolding counted resumed inside size
-  frame-held {f} {x} {r} e = rw (framed-is, ← e) (go (follow (body f) (take (x .start + x .count) s) (place (x .start) (r .steps))))
+  frame-held {f} {x} {r} e = rw (framed-is, ← e) (go (follow (body f) (held-to x s) (place (x .start) (r .steps))))
     where
       go : (o : Out Found)
           → counted k (then (then o (λ a i. got a (record { at = r .at; steps = i .steps }))) (λ a i. got (only (ranged kind f depth x (a .ranges))) i))

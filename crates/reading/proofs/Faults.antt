@@ -7,11 +7,11 @@ use mathlib.Core.List.{List, [], _∷_}
 use native.Mathlib.Omega.{arith}
 use borrow.Author.Tests.{leb-true}
 use lib.Dec.{leb}
-use lib.ListN.{length, take}
+use lib.ListN.{length}
 use Rattle.reading.specs.Bytes.{be4}
 use Rattle.reading.specs.Utf8.{_&_, utf8}
 use Rattle.reading.specs.Script.{octet-count, Span, Value, Found, Item, word, tested, long, int, block, opaque, string, Script, give, refuse, here, item, within, repeat}
-use Rattle.reading.specs.Cursor.{Place, Out, got, stop, Reader, then, bytes, read-item, times, inside, follow}
+use Rattle.reading.specs.Cursor.{Place, Out, got, stop, Reader, then, bytes, read-item, times, held-to, inside, follow}
 use Rattle.reading.specs.Layout.{Field, plain, mac, addr, list, segments}
 use Rattle.reading.proofs.Items.{either, Code, Or-here, given, refused, fixed-here, opaque-here}
 
@@ -94,7 +94,7 @@ sure gives s p = fine
 sure (refuses z) s p = fault z
 sure (stands h) s p = sure (h (p .at)) s p
 sure (reads {i} f h) s p = sure-then (sure-item s p i f) (λ v q. sure (h v) s q)
-sure (opens b h) s p = sure-then (sure-here (opaque-here s p)) (λ x q. sure-then (sure-then (sure b (take (x .start + x .count) s) _) (λ a e. fine)) (λ a e. sure (h x a) s e))
+sure (opens b h) s p = sure-then (sure-here (opaque-here s p)) (λ x q. sure-then (sure-then (sure b (held-to x s) _) (λ a e. fine)) (λ a e. sure (h x a) s e))
 sure (repeats {n} {body} b h) s p = sure-then (sure-times (follow body) s (λ q. sure b s q) n p) (λ a q. sure (h a) s q)
 
 pub not-zero : {A : Type 0} {o : Out A} {c a n : ℕ} → Sure o → o ≡ stop c a n → c ≡ 0 → ⊥

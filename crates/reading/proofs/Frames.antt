@@ -4,12 +4,11 @@ use mathlib.Core.Path.{_≡_, sym, ap, _∙_}
 use mathlib.Core.List.{List}
 use native.Mathlib.Omega.{arith}
 use lib.ListN.{length, take}
-use lib.Seq.{length-take-le}
 use Rattle.reading.specs.Bytes.{be4, padded}
 use Rattle.reading.specs.Script.{Span, Value, number, Found, word, Script}
-use Rattle.reading.specs.Cursor.{Place, got, read-opaque, read-item, times, inside, follow}
+use Rattle.reading.specs.Cursor.{Place, got, read-opaque, read-item, times, held-to, inside, follow}
 use Rattle.reading.specs.Layout.{num, only, ranged, between, framed, pdu}
-use Rattle.reading.proofs.Items.{split, fixed-read, Opaque-read, opaque-read}
+use Rattle.reading.proofs.Items.{split, held-to-end, fixed-read, Opaque-read, opaque-read}
 use Rattle.reading.proofs.Stands.{place}
 
 -- a word that was read, by its value
@@ -35,7 +34,7 @@ pub record Frame (kind depth : ℕ) (body : ℕ → Script) (s : List ℕ) (p : 
   pub steps : ℕ
   pub inner : Found
   pub last : Place
-  pub held : follow (body format) (take (span .start + span .count) s) (place (span .start) steps) ≡ got inner last
+  pub held : follow (body format) (held-to span s) (place (span .start) steps) ≡ got inner last
   pub found : a ≡ only (ranged kind format depth span (inner .ranges))
 
 -- what is inside stays inside
@@ -43,14 +42,14 @@ pub span-fits : {kind depth : ℕ} {body : ℕ → Script} {s : List ℕ} {p : P
 span-fits f = rw (f .start) (omega (arith, f .fits))
 
 pub span-length : {kind depth : ℕ} {body : ℕ → Script} {s : List ℕ} {p : Place} {a : Found} {q : Place} → (f : Frame kind depth body s p a q)
-    → length (take (f .span .start + f .span .count) s) ≡ f .span .start + f .span .count
-span-length {s = s} f = length-take-le (f .span .start + f .span .count) s (span-fits f)
+    → length (held-to (f .span) s) ≡ f .span .start + f .span .count
+span-length {s = s} f = held-to-end (f .span) s (span-fits f)
 
 module _ (kind depth : ℕ) (body : ℕ → Script) (s : List ℕ) (p : Place) where
   -- from the word, the opaque and what was inside it
   framed-from : {a : Found} {q : Place} (v : Value) (w : Place) (x : Span) (e : Place) (b : Found) (d : Place) (i : Found) (l : Place)
       → Word-read s p v w → Opaque-read s w x e
-      → follow (body (num v)) (take (x .start + x .count) s) (place (x .start) (e .steps)) ≡ got i l
+      → follow (body (num v)) (held-to x s) (place (x .start) (e .steps)) ≡ got i l
       → got i (record { at = e .at; steps = l .steps }) ≡ got b d
       → got (only (ranged kind (num v) depth x (b .ranges))) d ≡ got a q
       → Frame kind depth body s p a q

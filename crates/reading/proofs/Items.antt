@@ -7,9 +7,10 @@ use native.Mathlib.Omega.{arith}
 use borrow.Author.Tests.{le-leb, leb-true}
 use lib.Dec.{leb}
 use lib.ListN.{length}
+use lib.Seq.{length-take-le}
 use Rattle.reading.specs.Bytes.{be4, padded}
 use Rattle.reading.specs.Script.{Span, number, word, tested}
-use Rattle.reading.specs.Cursor.{Place, Out, got, stop, then, on, fixed, max-opaque, read-opaque, read-item}
+use Rattle.reading.specs.Cursor.{Place, Out, got, stop, then, on, fixed, max-opaque, awaited, read-opaque, read-item, held-to}
 
 -- a refusal is no answer
 pub never : {A B : Type 0} {c a n : ℕ} {x : A} {q : Place} → _≡_ {A = Out A} (stop c a n) (got x q) → B
@@ -25,6 +26,10 @@ pub record Split {A B : Type 0} (o : Out A) (k : A → Place → Out B) (b : B) 
 pub split : {A B : Type 0} (o : Out A) (k : A → Place → Out B) {b : B} {e : Place} → then o k ≡ got b e → Split o k b e
 split (got a p) k h = record { value = a; place = p; first = refl; second = h }
 split (stop c a n) k h = never h
+
+-- the input up to the end of a span ends there
+pub held-to-end : (x : Span) (s : List ℕ) → x .start + x .count ≤ length s → length (held-to x s) ≡ x .start + x .count
+held-to-end x s h = length-take-le (x .start + x .count) s h
 
 -- what holds of both branches
 pub either : {A : Type 0} (P : A → Type 0) (b : Bool) {x y : A} → P x → P y → P (cond b x y)
@@ -113,11 +118,21 @@ opaque-read s p x q h =
     let n = w .value in
     let f = fixed-read 4 (be4 s (p .at)) s p (w .first) in
     let r = passed (leb n max-opaque) _ _ _ _ (w .second) in
-    let g = fixed-read {A = Span} (4 + padded n) (record { start = w .place .at; count = n }) s p (r .1) in
-    let c : x .count ≡ n = ap (λ (y : Span). y .count) (g .1) in
-    let b : x .start ≡ w .place .at = ap (λ (y : Span). y .start) (g .1) in
+    let u = passed (leb (p .at + awaited n) (length s)) _ _ _ _ (r .1) in
+    let e : got (record { start = w .place .at; count = n }) (on (4 + padded n) p) ≡ got x q = u .1 in
+    let v : x ≡ record { start = w .place .at; count = n } = cc in
+    let z : q ≡ on (4 + padded n) p = cc in
+    let c : x .count ≡ n = ap (λ (y : Span). y .count) v in
     let l : n ≤ max-opaque = leb-true _ _ (r .0) in
-    record { small = rw c (omega arith); count = sym (f .1) ∙ sym c; fits = rw c (g .0); start = b ∙ f .2; at = rw c (g .2); steps = g .3 }
+    let m : p .at + awaited n ≤ length s = leb-true _ _ (u .0) in
+    record {
+      small = rw c (omega arith);
+      count = sym (f .1) ∙ sym c;
+      fits = rw c (omega arith);
+      start = ap (λ (y : Span). y .start) v ∙ f .2;
+      at = rw c (ap (λ (t : Place). t .at) z);
+      steps = ap (λ (t : Place). t .steps) z;
+    }
 
 -- ---- where an item is refused
 
@@ -141,4 +156,5 @@ module _ (s : List ℕ) (p : Place) where
 
   pub opaque-here : Or-here p (read-opaque s p)
   unfolding read-opaque
-  opaque-here = here-then (fixed-here 4 _) (λ n q. either (Or-here p) (leb n max-opaque) (fixed-here (4 + padded n) _) (refused (omega arith, omega arith)))
+  opaque-here = here-then (fixed-here 4 _) (λ n q.
+      either (Or-here p) (leb n max-opaque) (either (Or-here p) (leb (p .at + awaited n) (length s)) given (refused (omega arith, omega arith))) (refused (omega arith, omega arith)))

@@ -9,7 +9,7 @@ use lib.ListN.{length}
 use Rattle.reading.specs.Bytes.{be4, padded}
 use Rattle.reading.specs.Utf8.{utf8}
 use Rattle.reading.specs.Script.{Span, number, part, Found, word, opaque, string, Script, within}
-use Rattle.reading.specs.Cursor.{Place, Out, got, stop, then, fixed, max-opaque, bytes, read-opaque, read-item, follow}
+use Rattle.reading.specs.Cursor.{Place, Out, got, stop, then, fixed, max-opaque, awaited, bytes, read-opaque, read-item, follow}
 use Rattle.reading.proofs.Items.{never, split, fixed-stops, word-seen, opaque-read}
 
 module _ (s : List ℕ) (p : Place) where
@@ -27,7 +27,7 @@ module _ (s : List ℕ) (p : Place) where
     opaque-short l r =
         let w = word-seen s p e in
         let a : q .at ≡ p .at + 4 = ap (λ (t : Place). t .at) (w .2) in
-        simp (le-leb _ _ (w .0), ← w .1, le-leb _ _ l, lt-leb (p .at + (4 + padded n)) (length s) (omega arith))
+        simp (le-leb _ _ (w .0), ← w .1, le-leb _ _ l, lt-leb (p .at + awaited n) (length s) (omega arith))
 
     pub opaque-got : n ≤ max-opaque → padded n ≤ length s - q .at → got (part (record { start = q .at; count = n })) (record { at = q .at + padded n; steps = q .steps }) ≡ read-item opaque s p
     unfolding read-item
@@ -36,7 +36,7 @@ module _ (s : List ℕ) (p : Place) where
         let a : q .at ≡ p .at + 4 = ap (λ (t : Place). t .at) (w .2) in
         let k : q .steps ≡ p .steps + 1 = ap (λ (t : Place). t .steps) (w .2) in
         let z : p .at + (4 + padded n) ≡ p .at + 4 + padded n = omega arith in
-        simp (le-leb _ _ (w .0), ← w .1, le-leb _ _ l, le-leb (p .at + 4 + padded n) (length s) (omega arith), a, k, z)
+        rw (le-leb _ _ (w .0), ← w .1, le-leb _ _ l, le-leb (p .at + awaited n) (length s) (omega arith), a, k, z)
 
   -- where an opaque lies
   pub opaque-fits : {x : Span} {q : Place} → got (part x) q ≡ read-item opaque s p → x .start + x .count ≤ length s

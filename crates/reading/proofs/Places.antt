@@ -9,7 +9,7 @@ use lib.Dec.{leb}
 use lib.ListN.{length, take}
 use Rattle.reading.specs.Bytes.{be4, padded}
 use Rattle.reading.specs.Script.{Span, Value, Forest, bare, _⊕_, Found, _&&_, Script, give, repeat}
-use Rattle.reading.specs.Cursor.{Place, Out, got, stop, then, times, follow}
+use Rattle.reading.specs.Cursor.{Place, Out, got, stop, then, times, held-to, follow}
 use Rattle.reading.specs.Layout.{Field, fields, last-number, words, ranged, between, framed, pdu}
 use Rattle.reading.specs.Answer.{from}
 use Rattle.reading.proofs.Items.{never, split}
@@ -68,17 +68,17 @@ module _ (kind depth : ℕ) (body : ℕ → Script) (s : List ℕ) (at : ℕ) wh
   frame-from a q f e =
       let n : f .span .count ≡ be4 s (at + 4) = sym (f .count) in
       let x : f .span ≡ record { start = at + 8; count = be4 s (at + 4) } = λ i. record { start = f .start i; count = n i } in
-      let k : Alike (follow (body (f .format)) (take (f .span .start + f .span .count) s) (place (f .span .start) (f .steps))) (follow (body (f .format)) (take (f .span .start + f .span .count) s) (from (f .span .start))) = steady (body (f .format)) _ _ _ refl in
-      let g : Accepted (follow (body (f .format)) (take (f .span .start + f .span .count) s) (from (f .span .start))) = alike-accepted k (subst Accepted (sym (f .held)) accepted) in
-      let r : f .inner .ranges ≡ ranges-of (follow (body (f .format)) (take (f .span .start + f .span .count) s) (from (f .span .start))) = ap ranges-of (sym (f .held)) ∙ alike-ranges k in
+      let k : Alike (follow (body (f .format)) (held-to (f .span) s) (place (f .span .start) (f .steps))) (follow (body (f .format)) (held-to (f .span) s) (from (f .span .start))) = steady (body (f .format)) _ _ _ refl in
+      let g : Accepted (follow (body (f .format)) (held-to (f .span) s) (from (f .span .start))) = alike-accepted k (subst Accepted (sym (f .held)) accepted) in
+      let r : f .inner .ranges ≡ ranges-of (follow (body (f .format)) (held-to (f .span) s) (from (f .span .start))) = ap ranges-of (sym (f .held)) ∙ alike-ranges k in
       moved (f .format) (f .span) (f .format-is) x (rw n at (f .fits)) g
       (ap ranges-of e ∙ ap (λ (b : Found). b .ranges) (f .found) ∙ ap (λ (t : Forest). ranged kind (f .format) depth (f .span) t) r)
       (ap end-of e ∙ f .end ∙ ap (λ (m : ℕ). at + 8 + padded m) n)
     where
       moved : (format : ℕ) (span : Span) → format ≡ be4 s at → span ≡ record { start = at + 8; count = be4 s (at + 4) }
           → at + 8 + padded (be4 s (at + 4)) ≤ length s
-          → Accepted (follow (body format) (take (span .start + span .count) s) (from (span .start)))
-          → ranges-of (follow (framed kind depth body) s (from at)) ≡ ranged kind format depth span (ranges-of (follow (body format) (take (span .start + span .count) s) (from (span .start))))
+          → Accepted (follow (body format) (held-to span s) (from (span .start)))
+          → ranges-of (follow (framed kind depth body) s (from at)) ≡ ranged kind format depth span (ranges-of (follow (body format) (held-to span s) (from (span .start))))
           → end-of (follow (framed kind depth body) s (from at)) ≡ at + 8 + padded (be4 s (at + 4))
           → Frame-at kind depth body s at
       moved format span u v h g r t =

@@ -5,12 +5,11 @@ use mathlib.Core.List.{List, [], _++_}
 use native.Mathlib.Omega.{arith}
 use native.Mathlib.Nat.{add-zero, add-assoc}
 use lib.ListN.{length, take, drop, length-append}
-use lib.Seq.{length-take-le}
 use Rattle.reading.specs.Bytes.{padded}
 use Rattle.reading.specs.Script.{Span, Value, Found, Item, Script, give, refuse, here, item, within, repeat}
-use Rattle.reading.specs.Cursor.{Place, Out, got, stop, Reader, then, read-opaque, read-item, times, inside, follow}
+use Rattle.reading.specs.Cursor.{Place, Out, got, stop, Reader, then, read-opaque, read-item, times, held-to, inside, follow}
 use Rattle.reading.specs.Grammar.{Is}
-use Rattle.reading.proofs.Items.{never, split, Opaque-read, opaque-read}
+use Rattle.reading.proofs.Items.{never, split, held-to-end, Opaque-read, opaque-read}
 use Rattle.reading.proofs.Stands.{place, drop-take}
 use Rattle.reading.proofs.SoundItems.{Item-read, held-length, sound-item, cut, cut-length, is-opaque}
 use Rattle.reading.proofs.SoundRows.{Read, joined, none, Gave, sound-many, here-on}
@@ -30,15 +29,15 @@ follow-within body j s p = refl
 
 pub record Inside-read (r : Reader Found) (s : List ℕ) (x : Span) (p : Place) (a : Found) (q : Place) : Type 0 where
   pub last : Place
-  pub gave : r (take (x .start + x .count) s) (place (x .start) (p .steps)) ≡ got a last
+  pub gave : r (held-to x s) (place (x .start) (p .steps)) ≡ got a last
   pub at : q .at ≡ p .at
   pub steps : q .steps ≡ last .steps
 
 inside-read : (r : Reader Found) (s : List ℕ) (x : Span) (p : Place) (a : Found) (q : Place) → inside x r s p ≡ got a q → Inside-read r s x p a q
 unfolding inside
-inside-read r s x p a q h = go (r (take (x .start + x .count) s) (place (x .start) (p .steps))) refl h
+inside-read r s x p a q h = go (r (held-to x s) (place (x .start) (p .steps))) refl h
   where
-    go : (o : Out Found) → r (take (x .start + x .count) s) (place (x .start) (p .steps)) ≡ o
+    go : (o : Out Found) → r (held-to x s) (place (x .start) (p .steps)) ≡ o
         → then o (λ b e. got b (record { at = p .at; steps = e .steps })) ≡ got a q → Inside-read r s x p a q
     go (got b e) k m = let v : b ≡ a = cc in record { last = e; gave = k ∙ ap (λ (t : Found). got t e) v; at = cc; steps = cc }
     go (stop c t n) k m = never m
@@ -53,8 +52,8 @@ module _ (s : List ℕ) (p : Place) (x : Span) (e : Place) (r : Opaque-read s p 
   span-fits : x .start + x .count ≤ length s
   span-fits = rw (r .start) (omega (arith, r .fits))
 
-  inner-fits : x .start ≤ length (take (x .start + x .count) s)
-  inner-fits = rw (length-take-le (x .start + x .count) s span-fits) (omega arith)
+  inner-fits : x .start ≤ length (held-to x s)
+  inner-fits = rw (held-to-end x s span-fits) (omega arith)
 
   outer-fits : (q : Place) → q .at ≡ e .at → q .at ≤ length s
   outer-fits q at = rw (at ∙ r .at) (r .fits)
@@ -65,7 +64,7 @@ module _ (s : List ℕ) (p : Place) (x : Span) (e : Place) (r : Opaque-read s p 
 
 within-read : (body : Script) (j : Span → Found → Script) (s : List ℕ) (p : Place) (f : Found) (q : Place) (x : Span) (e : Place) (r : Opaque-read s p x e)
     (a : Found) (d : Place) (i : Inside-read (follow body) s x e a d)
-    → Read (Is body) (take (x .start + x .count) s) (place (x .start) (e .steps)) a (i .last)
+    → Read (Is body) (held-to x s) (place (x .start) (e .steps)) a (i .last)
     → Read (Is (j x a)) s d f q → Read (Is (within body j)) s p f q
 unfolding Is
 within-read body j s p f q x e r a d i m b =
@@ -131,7 +130,7 @@ module _ (body : Script) (j : Span → Found → Script) (inner : Gave (follow b
       let r = opaque-read s p x e l in
       let i = inside-read (follow body) s x e a d m in
       within-read body j s p f q x e r a d i
-      (inner (take (x .start + x .count) s) (place (x .start) (e .steps)) a (i .last) (inner-fits s p x e r) (i .gave))
+      (inner (held-to x s) (place (x .start) (e .steps)) a (i .last) (inner-fits s p x e r) (i .gave))
       (ih x a s d f q (outer-fits s p x e r d (i .at)) n)
 
   sound-within : Gave (follow (within body j)) (Is (within body j))

@@ -4,11 +4,11 @@ use mathlib.Core.Path.{_≡_, refl, sym, ap, _∙_}
 use mathlib.Core.Bool.{Bool, true, false, cond}
 use mathlib.Core.List.{List}
 use lib.Dec.{leb}
-use lib.ListN.{length, take}
-use Rattle.reading.specs.Bytes.{be4, padded}
+use lib.ListN.{length}
+use Rattle.reading.specs.Bytes.{be4}
 use Rattle.reading.specs.Utf8.{utf8}
 use Rattle.reading.specs.Script.{octet-count, Span, Found, Item, word, tested, long, int, block, opaque, string, Script, give, refuse, here, item, within, repeat}
-use Rattle.reading.specs.Cursor.{Place, Out, got, stop, Reader, then, on, fixed, max-opaque, bytes, read-opaque, read-item, times, inside, follow}
+use Rattle.reading.specs.Cursor.{Place, Out, got, stop, Reader, then, on, fixed, max-opaque, awaited, bytes, read-opaque, read-item, times, held-to, inside, follow}
 use Rattle.reading.proofs.Items.{never}
 use Rattle.reading.proofs.Stands.{place}
 
@@ -39,10 +39,11 @@ module _ (s : List ℕ) (p q : Place) (e : p .at ≡ q .at) where
 
   alike-opaque : Alike (read-opaque s p) (read-opaque s q)
   unfolding read-opaque
-  alike-opaque = rw e (alike-then _ _ (go 4 (be4 s (q .at))) (λ n i j h. rw h (alike-cond (leb n max-opaque) (go (4 + padded n) (record { start = j .at; count = n })) both-stop)))
+  alike-opaque =
+      rw e (alike-then _ _ first (λ n i j h. rw h (alike-cond (leb n max-opaque) (alike-cond (leb (q .at + awaited n) (length s)) (both-got refl) both-stop) both-stop)))
     where
-      go : {A : Type 0} (n : ℕ) (a : A) → Alike (cond (leb (q .at + n) (length s)) (got a (record { at = q .at + n; steps = on n p .steps })) (stop 2 (q .at) (p .steps))) (fixed n a s q)
-      go n a = alike-cond (leb (q .at + n) (length s)) (both-got refl) both-stop
+      first : Alike (cond (leb (q .at + 4) (length s)) (got (be4 s (q .at)) (record { at = q .at + 4; steps = on 4 p .steps })) (stop 2 (q .at) (p .steps))) (fixed 4 (be4 s (q .at)) s q)
+      first = alike-cond (leb (q .at + 4) (length s)) (both-got refl) both-stop
 
   alike-item : (i : Item) → Alike (read-item i s p) (read-item i s q)
   unfolding read-item
@@ -59,7 +60,7 @@ unfolding times
 alike-times r s h zero p q e = both-got e
 alike-times r s h (suc n) p q e = alike-then _ _ (h p q e) (λ a i j k. alike-then _ _ (alike-times r s h n i j k) (λ b u v w. both-got w))
 
-alike-inside : (r : Reader Found) (x : Span) (s : List ℕ) → Steady (r (take (x .start + x .count) s)) → Steady (inside x r s)
+alike-inside : (r : Reader Found) (x : Span) (s : List ℕ) → Steady (r (held-to x s)) → Steady (inside x r s)
 unfolding inside
 alike-inside r x s h p q e = alike-then _ _ (h (place (x .start) (p .steps)) (place (x .start) (q .steps)) refl) (λ a i j k. both-got e)
 
@@ -71,7 +72,7 @@ steady (here k) s p q e = rw e (steady (k (q .at)) s (place (q .at) (p .steps)) 
 steady (item i k) s p q e = alike-then _ _ (alike-item s p q e i) (λ v i j h. steady (k v) s i j h)
 steady (within body k) s p q e =
     alike-then _ _ (alike-opaque s p q e) (λ x i j h.
-    alike-then _ _ (alike-inside (follow body) x s (steady body (take (x .start + x .count) s)) i j h) (λ a u v w. steady (k x a) s u v w))
+    alike-then _ _ (alike-inside (follow body) x s (steady body (held-to x s)) i j h) (λ a u v w. steady (k x a) s u v w))
 steady (repeat n body k) s p q e = alike-then _ _ (alike-times (follow body) s (steady body s) n p q e) (λ a i j h. steady (k a) s i j h)
 
 pub steady-times : (sc : Script) (s : List ℕ) (n : ℕ) → Steady (times n (follow sc) s)

@@ -37,12 +37,16 @@ fixed n a s p = cond (leb (p .at + n) (length s)) (got a (on n p)) (stop 2 (p .a
 abbrev pub max-opaque : ℕ
 max-opaque = 104857600
 
+-- how many bytes of an opaque of n have to be there before anything in it is looked at: its length word, its payload and its pad
+abbrev pub awaited : ℕ → ℕ
+awaited n = 4 + padded n
+
 -- in this order: the length word is there; 5 where it is above 104,857,600; payload and pad are there
 unfoldable pub read-opaque : Reader Span
 unfolding fixed
 read-opaque s p = then (fixed 4 (be4 s (p .at)) s p) (λ n q.
     cond (leb n max-opaque)
-    (fixed (4 + padded n) (record { start = q .at; count = n }) s p)
+    (cond (leb (p .at + awaited n) (length s)) (got (record { start = q .at; count = n }) (on (4 + padded n) p)) (stop 2 (p .at) (p .steps)))
     (stop 5 (p .at) (p .steps)))
 
 abbrev pub bytes : List ℕ → Span → List ℕ
@@ -66,10 +70,14 @@ unfoldable pub times : ℕ → Reader Found → Reader Found
 times zero r s p = got nothing p
 times (suc n) r s p = then (r s p) (λ a q. then (times n r s q) (λ b e. got (a && b) e))
 
+-- the input up to the end of a span
+abbrev pub held-to : Span → List ℕ → List ℕ
+held-to x s = take (x .start + x .count) s
+
 -- `r` over the bytes of a span and over none past it; then on from where the opaque ends
 unfoldable pub inside : Span → Reader Found → Reader Found
 inside x r s p =
-    then (r (take (x .start + x .count) s) (record { at = x .start; steps = p .steps }))
+    then (r (held-to x s) (record { at = x .start; steps = p .steps }))
     (λ a q. got a (record { at = p .at; steps = q .steps }))
 
 unfoldable pub follow : Script → Reader Found
