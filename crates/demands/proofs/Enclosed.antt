@@ -24,9 +24,9 @@ pub record Span-there (s : List ℕ) (p : Place) (x : Span) (q : Place) : Type 0
   pub is : Opaque payload read
   pub span : x ≡ record { start = p .at + 4; count = length payload }
 
-pub span-there : (s : List ℕ) (p : Place) (x : Span) (q : Place) → p .at ≤ length s → read-opaque s p ≡ got x q → Span-there s p x q
+pub span-there : (s : List ℕ) (p : Place) (x : Span) (q : Place) → read-opaque s p ≡ got x q → Span-there s p x q
 unfolding read-item Is-item
-span-there s p x q h e = let t = item-there opaque s p (part x) q h (rw e) in go t (t .is)
+span-there s p x q e = let t = item-there opaque s p (part x) q (rw e) in go t (t .is)
   where
     go : (t : Item-there opaque s p (part x) q) → (y : List ℕ) × Opaque y (t .read) × (part x ≡ part (record { start = p .at + 4; count = length y })) → Span-there s p x q
     go t (y, o, v) = record { payload = y; read = t .read; rest = t .rest; stands = t .stands; at = t .at; steps = t .steps; is = o; span = cc }

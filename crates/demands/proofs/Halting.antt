@@ -10,10 +10,10 @@ use Rattle.reading.specs.Script.{Span, Value, Found, Item, Script, item, within
 use Rattle.reading.specs.Cursor.{Place, Out, got, stop, read-opaque, read-item, times, inside, follow}
 use Rattle.reading.specs.Grammar.{Opaque, Is}
 use Rattle.reading.proofs.Stands.{place, Stands, opaque-there, payload-there, bytes-there, drop-take, held, front}
-use Rattle.reading.proofs.Complete.{complete}
+use Rattle.reading.proofs.Complete.{complete-item, complete-many, complete}
 use Rattle.demands.specs.Stops.{Stops, barred, standing, no-item, past-item, no-opaque, inside-it, past-it, among, past-all}
 use Rattle.demands.proofs.Opened.{begins}
-use Rattle.demands.proofs.Stopping.{Left, part-stands, left-behind, opaque-missing, item-missing, item-read, many-read, many-stop}
+use Rattle.demands.proofs.Stopping.{Left, part-stands, left-behind, opaque-missing, item-missing, many-stop}
 
 -- the same refusal, counted in two ways
 same : {A : Type 0} (c a m n : ℕ) → m ≡ n → _≡_ {A = Out A} (stop c a m) (stop c a n)
@@ -71,7 +71,7 @@ halting {o = o} {c} {a} {n} (barred {c = d} e f g) s k h = at-once d c a o k n e
 halting (standing m) s k h = halting m s k h
 halting {o = o} {c} {a} {n} (no-item {i} {k = j} m e f) s k h = none-here s (place o k) i j (item-missing h k m ∙ at-once c c a o k n refl e f)
 halting {o = o} {c} {a} {n} (past-item {i} {k = j} x y v m e f ix t) s k h =
-    past-an-item s (place o k) i j (item-read i o k ix (part-stands x y e h)) (halting t s (k + 1) (left-behind x y e h) ∙ same c a (k + 1 + m) (k + n) (omega arith))
+    past-an-item s (place o k) i j (complete-item i o k ix (part-stands x y e h)) (halting t s (k + 1) (left-behind x y e h) ∙ same c a (k + 1 + m) (k + n) (omega arith))
 halting {o = o} {c} {a} {n} (no-opaque {body} {k = j} m e f) s k h = no-opaque-here s (place o k) body j (opaque-missing h k m ∙ at-once c c a o k n refl e f)
 halting {o = o} {c} {a} {n} (inside-it {body} {k = j} x m f q t) s k h =
     let b = begins q in
@@ -83,6 +83,6 @@ halting {o = o} {c} {a} {n} (past-it {body} {k = j} x u y inner rest g m l e f q
     (halting t s (k + 1 + m) (left-behind u y e h) ∙ same c a (k + 1 + m + l) (k + n) (omega arith))
 halting {o = o} {c} {a} {n} (among {c = d} {body} {k = i} j x y g m l lt e f many t) s k h =
     in-many s (place o k) d body i
-    (many-stop (follow body) s j d (place o k) lt (many-read j body o k m many (part-stands x y e h)) (halting t s (k + m) (left-behind x y e h) ∙ same c a (k + m + l) (k + n) (omega arith)))
+    (many-stop (follow body) s j d (place o k) lt (complete-many (follow body) (Is body) (complete body) j s x y g o k m many (part-stands x y e h)) (halting t s (k + m) (left-behind x y e h) ∙ same c a (k + m + l) (k + n) (omega arith)))
 halting {o = o} {c} {a} {n} (past-all {c = d} {body} {k = i} x y g m l e f many t) s k h =
-    past-many s (place o k) d body i (many-read d body o k m many (part-stands x y e h)) (halting t s (k + m) (left-behind x y e h) ∙ same c a (k + m + l) (k + n) (omega arith))
+    past-many s (place o k) d body i (complete-many (follow body) (Is body) (complete body) d s x y g o k m many (part-stands x y e h)) (halting t s (k + m) (left-behind x y e h) ∙ same c a (k + m + l) (k + n) (omega arith))

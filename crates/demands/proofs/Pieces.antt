@@ -1,22 +1,22 @@
--- What the cursor read, or refused, of one item, of one opaque or of so many in a row, in the grammar's terms. Assumes nothing.
+-- What the cursor read, or refused, of one item or of one opaque, in the grammar's terms. Assumes nothing.
 use Prim.Native.Nat.{ℕ, _+_, _≤_, _<_}
-use mathlib.Core.Path.{_≡_, refl, sym, ap, _∙_, subst}
+use mathlib.Core.Path.{_≡_, refl, sym, ap, _∙_}
 use mathlib.Core.Bool.{Bool, true, false, cond}
-use mathlib.Core.List.{List, [], _∷_, _++_, append-nil}
+use mathlib.Core.List.{List}
 use native.Mathlib.Omega.{arith}
 use native.Mathlib.Nat.{add-zero}
 use borrow.Author.Tests.{leb-true, leb-false}
 use lib.Dec.{leb}
-use lib.ListN.{length, drop, length-drop}
+use lib.ListN.{length, take, drop, length-drop}
 use lib.Seq.{drop-drop, drop-at, getD-drop}
 use Rattle.reading.specs.Bytes.{be4, padded}
 use Rattle.reading.specs.Utf8.{utf8}
-use Rattle.reading.specs.Script.{octet-count, Span, Value, number, part, bare, Found, Item, word, tested, long, int, block, opaque, string, Script, give, item, repeat}
-use Rattle.reading.specs.Cursor.{Place, Out, got, stop, then, on, fixed, bytes, read-opaque, read-item, times, follow}
-use Rattle.reading.specs.Grammar.{Opaque, Is-item, Many, Is}
+use Rattle.reading.specs.Script.{octet-count, Span, Value, number, part, Item, word, tested, long, int, block, opaque, string}
+use Rattle.reading.specs.Cursor.{Place, Out, got, stop, then, on, fixed, bytes, read-opaque, read-item}
+use Rattle.reading.specs.Grammar.{Opaque, Is-item}
 use Rattle.reading.proofs.Items.{never}
 use Rattle.reading.proofs.Stands.{Stands, payload-there, bytes-there}
-use Rattle.reading.proofs.Sound.{sound}
+use Rattle.reading.proofs.SoundItems.{cut as standing, cut-length, sound-item}
 use Rattle.demands.proofs.Opened.{opens}
 use Rattle.demands.specs.Stops.{No-opaque, no-length, too-long, cut, No-item, no-word, no-tested, failed, no-long, no-int, no-block, no-part, no-string, not-utf8}
 
@@ -38,59 +38,17 @@ pub record Item-there (i : Item) (s : List ℕ) (p : Place) (v : Value) (q : Pla
   pub steps : q .steps ≡ p .steps + 1
   pub is : Is-item i (p .at) read v
 
-pub shown : Value → Found
-shown v = record { values = v ∷ []; ranges = bare }
-
-pub same-shown : {v w : Value} → shown v ≡ shown w → v ≡ w
-unfolding shown
-same-shown {v} {w} e = let l : v ∷ [] ≡ w ∷ [] = ap (λ (f : Found). f .values) e in cc
-
-pub item-there : (i : Item) (s : List ℕ) (p : Place) (v : Value) (q : Place) → p .at ≤ length s → read-item i s p ≡ got v q → Item-there i s p v q
-unfolding follow Is
-item-there i s p v q h e =
-    let r = sound (item i (λ w. give (shown w))) s p (shown v) q h (rw e) in
-    go (r .read) (r .rest) (r .items) (r .stands) (r .at) (r .steps) (r .is)
-  where
-    go : (b t : List ℕ) (n : ℕ) → Stands s (p .at) b t → q .at ≡ p .at + length b → q .steps ≡ p .steps + n → Is (item i (λ w. give (shown w))) (p .at) b (shown v) n → Item-there i s p v q
-    go b t n st at steps (x, y, w, m, eb, en, ix, (ey, ef, em)) =
-        let z : b ≡ x = eb ∙ ap (λ (l : List ℕ). x ++ l) ey ∙ append-nil x in
-        record {
-          read = x;
-          rest = t;
-          stands = subst (λ (l : List ℕ). Stands s (p .at) l t) z st;
-          at = at ∙ ap (λ (l : List ℕ). p .at + length l) z;
-          steps = steps ∙ omega arith;
-          is = subst (λ (u : Value). Is-item i (p .at) x u) (sym (same-shown ef)) ix;
-        }
-
--- so many in a row
-pub record Many-there (c : ℕ) (body : Script) (s : List ℕ) (p : Place) (a : Found) (q : Place) : Type 0 where
-  pub read : List ℕ
-  pub rest : List ℕ
-  pub items : ℕ
-  pub stands : Stands s (p .at) read rest
-  pub at : q .at ≡ p .at + length read
-  pub steps : q .steps ≡ p .steps + items
-  pub is : Many c (Is body) (p .at) read a items
-
-pub many-there : (c : ℕ) (body : Script) (s : List ℕ) (p : Place) (a : Found) (q : Place) → p .at ≤ length s → times c (follow body) s p ≡ got a q → Many-there c body s p a q
-unfolding follow Is
-many-there c body s p a q h e =
-    let r = sound (repeat c body (λ f. give f)) s p a q h (ap (λ (o : Out Found). then o (λ f t. got f t)) e) in
-    go (r .read) (r .rest) (r .items) (r .stands) (r .at) (r .steps) (r .is)
-  where
-    go : (b t : List ℕ) (n : ℕ) → Stands s (p .at) b t → q .at ≡ p .at + length b → q .steps ≡ p .steps + n → Is (repeat c body (λ f. give f)) (p .at) b a n → Many-there c body s p a q
-    go b t n st at steps (x, y, f, m, l, eb, en, many, (ey, ef, el)) =
-        let z : b ≡ x = eb ∙ ap (λ (i : List ℕ). x ++ i) ey ∙ append-nil x in
-        record {
-          read = x;
-          rest = t;
-          items = m;
-          stands = subst (λ (i : List ℕ). Stands s (p .at) i t) z st;
-          at = at ∙ ap (λ (i : List ℕ). p .at + length i) z;
-          steps = steps ∙ omega arith;
-          is = subst (λ (g : Found). Many c (Is body) (p .at) x g m) (sym ef) many;
-        }
+pub item-there : (i : Item) (s : List ℕ) (p : Place) (v : Value) (q : Place) → read-item i s p ≡ got v q → Item-there i s p v q
+item-there i s p v q e =
+    let r = sound-item i s p v q e in
+    record {
+      read = take (r .size) (drop (p .at) s);
+      rest = drop (r .size) (drop (p .at) s);
+      stands = standing s (p .at) (r .size) (r .fits);
+      at = r .at ∙ ap (λ (n : ℕ). p .at + n) (sym (cut-length s (p .at) (r .size) (r .fits)));
+      steps = r .steps;
+      is = r .is;
+    }
 
 -- ---- what was not
 
@@ -146,7 +104,7 @@ module _ (s : List ℕ) (p : Place) (i : p .at ≤ length s) {c a n : ℕ} where
   string-short (got x q) f e = go (utf8 (bytes s x)) refl e
     where
       there : Item-there opaque s p (part x) q
-      there = item-there opaque s p (part x) q i (rw f)
+      there = item-there opaque s p (part x) q (rw f)
 
       go : (t : Bool) → utf8 (bytes s x) ≡ t → cond t (got (part x) q) (stop 7 (p .at) (p .steps)) ≡ stop c a n → At-once (λ d. No-item (drop (p .at) s) d string) p c a n
       go true t e = never (sym e)

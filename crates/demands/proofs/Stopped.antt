@@ -8,14 +8,14 @@ use native.Mathlib.Nat.{add-zero}
 use lib.ListN.{length, drop}
 use Rattle.reading.specs.Script.{Span, Value, Found, Item, Script, give, refuse, here, item, within, repeat}
 use Rattle.reading.specs.Cursor.{Place, Out, got, stop, then, read-opaque, read-item, times, inside, follow}
-use Rattle.reading.specs.Grammar.{Is}
+use Rattle.reading.specs.Grammar.{Many, Is}
 use Rattle.reading.proofs.Items.{never}
 use Rattle.reading.proofs.Stands.{place, Stands}
 use Rattle.reading.proofs.Sound.{sound}
-use Rattle.reading.proofs.SoundRows.{Read}
+use Rattle.reading.proofs.SoundRows.{Read, sound-many}
 use Rattle.demands.specs.Stops.{Stops, barred, standing, no-item, past-item, no-opaque, inside-it, past-it, among, past-all}
 use Rattle.demands.proofs.Opened.{opens}
-use Rattle.demands.proofs.Pieces.{behind, Item-there, item-there, Many-there, many-there, stop-as, opaque-short, item-short}
+use Rattle.demands.proofs.Pieces.{behind, Item-there, item-there, stop-as, opaque-short, item-short}
 use Rattle.demands.proofs.Enclosed.{Span-there, span-there, held, held-is, held-fits, some}
 
 -- the script stops at p, where the rest of s is left; n counts the steps before p and the items behind it
@@ -49,7 +49,7 @@ module _ (i : Item) (k : Value → Script) (ih : (v : Value) → Halts (k v)) wh
   halts-item s p c a n h e = go (read-item i s p) refl e
     where
       go : (o : Out Value) → read-item i s p ≡ o → then o (λ v q. follow (k v) s q) ≡ stop c a n → Stopped (item i k) s p c a n
-      go (got v q) f e = let t = item-there i s p v q h f in item-past t (ih v s q c a n (rw (t .at) (t .stands .fits)) e)
+      go (got v q) f e = let t = item-there i s p v q f in item-past t (ih v s q c a n (rw (t .at) (t .stands .fits)) e)
       go (stop d b m) f e =
           let r = item-short s p h i (f ∙ stop-as e) in
           record { items = 0; steps = r .steps ∙ sym (add-zero _); stops = no-item (r .why) (r .at) refl }
@@ -89,14 +89,14 @@ module _ (body : Script) (k : Span → Found → Script) (inner : Halts body) (i
 
       go : (o : Out Span) → read-opaque s p ≡ o → then o (λ x q. then (inside x (follow body) s q) (λ f d. follow (k x f) s d)) ≡ stop c a n → Stopped (within body k) s p c a n
       go (got x q) f e =
-          let t = span-there s p x q h f in
+          let t = span-there s p x q f in
           opened x q t (follow body (held t) (place (p .at + 4) (q .steps))) refl (subst (λ (y : Span). then (inside y (follow body) s q) (λ f d. follow (k y f) s d) ≡ stop c a n) (t .span) e)
       go (stop d b m) f e =
           let r = opaque-short s p h (f ∙ stop-as e) in
           record { items = 0; steps = r .steps ∙ sym (add-zero _); stops = no-opaque (r .why) (r .at) refl }
 
 module _ (c : ℕ) (body : Script) (k : Found → Script) (inner : Halts body) (ih : (a : Found) → Halts (k a)) where
-  repeat-in : {s : List ℕ} {p q : Place} {f : Found} {d a n : ℕ} (j : ℕ) → j < c → Many-there j body s p f q → Stopped body s q d a n → Stopped (repeat c body k) s p d a n
+  repeat-in : {s : List ℕ} {p q : Place} {f : Found} {d a n : ℕ} (j : ℕ) → j < c → Read (Many j (Is body)) s p f q → Stopped body s q d a n → Stopped (repeat c body k) s p d a n
   repeat-in {p = p} {f = f} j l t r =
       record {
         items = t .items + r .items;
@@ -104,7 +104,7 @@ module _ (c : ℕ) (body : Script) (k : Found → Script) (inner : Halts body) (
         stops = among j (t .read) (t .rest) f (t .items) (r .items) l (t .stands .there) refl (t .is) (next (p .at) (t .stands) (t .at) r);
       }
 
-  repeat-past : {s : List ℕ} {p q : Place} {f : Found} {d a n : ℕ} → Many-there c body s p f q → Stopped (k f) s q d a n → Stopped (repeat c body k) s p d a n
+  repeat-past : {s : List ℕ} {p q : Place} {f : Found} {d a n : ℕ} → Read (Many c (Is body)) s p f q → Stopped (k f) s q d a n → Stopped (repeat c body k) s p d a n
   repeat-past {p = p} {f = f} t r =
       record {
         items = t .items + r .items;
@@ -117,10 +117,10 @@ module _ (c : ℕ) (body : Script) (k : Found → Script) (inner : Halts body) (
   halts-repeat s p d a n h e = go (times c (follow body) s p) refl e
     where
       go : (o : Out Found) → times c (follow body) s p ≡ o → then o (λ f q. follow (k f) s q) ≡ stop d a n → Stopped (repeat c body k) s p d a n
-      go (got f q) g e = let t = many-there c body s p f q h g in repeat-past t (ih f s q d a n (rw (t .at) (t .stands .fits)) e)
+      go (got f q) g e = let t = sound-many (follow body) (Is body) (sound body) c s p f q h g in repeat-past t (ih f s q d a n (rw (t .at) (t .stands .fits)) e)
       go (stop i j m) g e =
           let u = some (follow body) s c p d a n (g ∙ e) in
-          let t = many-there (u .count) body s p (u .found) (u .last) h (u .before) in
+          let t = sound-many (follow body) (Is body) (sound body) (u .count) s p (u .found) (u .last) h (u .before) in
           repeat-in (u .count) (u .fewer) t (inner s (u .last) d a n (rw (t .at) (t .stands .fits)) (u .here-it))
 
 halts-refuse : (code : ℕ) → Halts (refuse code)

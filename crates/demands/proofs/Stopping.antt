@@ -1,23 +1,19 @@
 -- What the cursor answers where the grammar has no item, no opaque or not so many in a row: that refusal, at that place. Assumes nothing.
 use Prim.Native.Nat.{ℕ, zero, suc, _+_, _-_, _≤_, _<_}
-use mathlib.Core.Path.{_≡_, refl, sym, ap, _∙_}
+use mathlib.Core.Path.{_≡_, sym, ap, _∙_}
 use mathlib.Core.Bool.{false}
-use mathlib.Core.List.{List, [], _++_, append-nil}
+use mathlib.Core.List.{List, _++_}
 use native.Mathlib.Omega.{arith}
-use native.Mathlib.Nat.{add-zero}
 use borrow.Author.Tests.{le-leb, lt-leb}
 use lib.ListN.{length, drop, length-drop, length-append}
 use Rattle.reading.specs.Bytes.{be4, padded}
-use Rattle.reading.specs.Script.{octet-count, Value, Found, _&&_, Item, Script, give, item, repeat}
-use Rattle.reading.specs.Cursor.{Place, got, stop, Reader, then, fixed, bytes, read-opaque, read-item, times, follow}
-use Rattle.reading.specs.Grammar.{Is-item, Many, Is}
+use Rattle.reading.specs.Script.{octet-count, Found, _&&_, Item}
+use Rattle.reading.specs.Cursor.{Place, got, stop, Reader, then, fixed, bytes, read-opaque, read-item, times}
 use Rattle.reading.proofs.Items.{split}
 use Rattle.reading.proofs.Stands.{place, Stands, opaque-there, payload-there, bytes-there}
-use Rattle.reading.proofs.Complete.{complete}
-use Rattle.reading.proofs.Counts.{repeat-is}
 use Rattle.demands.specs.Stops.{No-opaque, no-length, too-long, cut, No-item, no-word, no-tested, failed, no-long, no-int, no-block, no-part, no-string, not-utf8}
 use Rattle.demands.proofs.Opened.{begins}
-use Rattle.demands.proofs.Pieces.{behind, word-drop, shown, same-shown}
+use Rattle.demands.proofs.Pieces.{behind, word-drop}
 
 -- b is what is left of s at o
 pub record Left (s : List ℕ) (o : ℕ) (b : List ℕ) : Type 0 where
@@ -79,22 +75,6 @@ module _ {s b : List ℕ} {o : ℕ} (h : Left s o b) (k : ℕ) where
       let st = part-stands (b .read) (b .rest) (b .joined) h in
       let g : bytes s (record { start = o + 4; count = length x }) ≡ x = bytes-there (o + 4) (payload-there o (b .is) st .1) in
       rw (opaque-there o k (b .is) st, g, t, z)
-
--- an item that is there
-pub item-read : (i : Item) {s x y : List ℕ} {v : Value} (o k : ℕ) → Is-item i o x v → Stands s o x y → read-item i s (place o k) ≡ got v (place (o + length x) (k + 1))
-unfolding follow Is
-item-read i {s} {x} {y} {v} o k ix st =
-    let r = split (read-item i s (place o k)) _ (complete (item i (λ w. give (shown w))) s x y (shown v) o k 1 (x, [], v, 0, sym (append-nil x), refl, ix, (refl, refl, refl)) st) in
-    let g : got (shown (r .value)) (r .place) ≡ got (shown v) (place (o + length x) (k + 1)) = r .second in
-    let a : r .value ≡ v = same-shown (cc) in
-    let b : r .place ≡ place (o + length x) (k + 1) = cc in
-    r .first ∙ cc
-
--- so many that are there
-pub many-read : (c : ℕ) (body : Script) {s x y : List ℕ} {f : Found} (o k m : ℕ) → Many c (Is body) o x f m → Stands s o x y → times c (follow body) s (place o k) ≡ got f (place (o + length x) (k + m))
-unfolding follow Is
-many-read c body {s} {x} {y} {f} o k m h st =
-    sym (repeat-is c body s (place o k)) ∙ complete (repeat c body (λ a. give a)) s x y f o k m (x, [], f, m, 0, sym (append-nil x), sym (add-zero m), h, (refl, refl, refl)) st
 
 -- of so many in a row, one that stops
 pub many-stop : (r : Reader Found) (s : List ℕ) (j c : ℕ) (p : Place) {a : Found} {q : Place} {code at n : ℕ} → j < c → times j r s p ≡ got a q → r s q ≡ stop code at n → times c r s p ≡ stop code at n

@@ -12,7 +12,7 @@ use Rattle.reading.specs.Cursor.{Place, Out, got, Reader, then, read-opa
 use Rattle.reading.specs.Grammar.{Is-item, Meaning, Many, Is}
 use Rattle.reading.proofs.Stands.{place, Stands, be4-at, be4-here, front, back, opaque-there, payload-there, bytes-there, held}
 
-complete-item : (i : Item) {s b rest : List ℕ} {v : Value} (o k : ℕ) → Is-item i o b v → Stands s o b rest → read-item i s (place o k) ≡ got v (place (o + length b) (k + 1))
+pub complete-item : (i : Item) {s b rest : List ℕ} {v : Value} (o k : ℕ) → Is-item i o b v → Stands s o b rest → read-item i s (place o k) ≡ got v (place (o + length b) (k + 1))
 unfolding Is-item read-item be8
 complete-item word {s} o k (len, e) h = simp (e, len, be4-here o h (omega arith), le-leb (o + 4) (length s) (omega (arith, h .fits)))
 complete-item (tested ok code) {s} o k (len, t, e) h = simp (e, len, be4-here o h (omega arith), t, le-leb (o + 4) (length s) (omega (arith, h .fits)))
@@ -27,10 +27,10 @@ complete-item string {s} o k (x, q, t, e) h =
     simp (e, opaque-there o k q h, y, t)
 
 -- a reader gives what a meaning says
-abbrev Gives : Reader Found → Meaning → Type 0
+abbrev pub Gives : Reader Found → Meaning → Type 0
 Gives r P = (s b rest : List ℕ) (f : Found) (o k n : ℕ) → P o b f n → Stands s o b rest → r s (place o k) ≡ got f (place (o + length b) (k + n))
 
-complete-many : (r : Reader Found) (P : Meaning) → Gives r P → (c : ℕ) → Gives (times c r) (Many c P)
+pub complete-many : (r : Reader Found) (P : Meaning) → Gives r P → (c : ℕ) → Gives (times c r) (Many c P)
 unfolding times Many
 complete-many r P each zero s b rest f o k n (e, g, m) h = simp (e, g, m, add-zero)
 complete-many r P each (suc c) s b rest f o k n (x, y, g, g′, m, l, e, eg, en, px, py) h =
