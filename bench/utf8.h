@@ -1,4 +1,4 @@
-/* Whether bytes are well-formed UTF-8, as RFC 3629's table has it: plain ASCII by blocks, and then the rows of the table, each by a mask. */
+/* Whether bytes are well-formed UTF-8, as RFC 3629's table has it: plain ASCII by blocks, and then the rows of the table, each by masks. */
 #ifndef UTF8_H
 #define UTF8_H
 
@@ -13,75 +13,82 @@
 
 #define UTF8_HIGH 0x8080808080808080u
 
-static inline uint64_t utf8_eight(const uint8_t *s) {
-    uint64_t eight;
-    memcpy(&eight, s, sizeof eight);
-    return eight;
+static inline uint64_t utf8_load8(const uint8_t *s) {
+    uint64_t bytes;
+    memcpy(&bytes, s, sizeof bytes);
+    return bytes;
 }
 
-/* The high bits of sixteen bytes, as one number that is 0 where they are ASCII. */
-static inline uint64_t utf8_high16(const uint8_t *s) {
-    return (utf8_eight(s) | utf8_eight(s + 8)) & UTF8_HIGH;
+static inline uint32_t utf8_load4(const uint8_t *s) {
+    uint32_t bytes;
+    memcpy(&bytes, s, sizeof bytes);
+    return bytes;
 }
 
-static inline uint64_t utf8_high64(const uint8_t *s) {
-    return utf8_high16(s) | utf8_high16(s + 16) | utf8_high16(s + 32) | utf8_high16(s + 48);
+/* Fewer than eight bytes, and zero behind them. The loads overlap. */
+static inline uint64_t utf8_load_rest(const uint8_t *s, size_t n) {
+    if (n >= 4)
+        return utf8_load4(s) | (uint64_t)utf8_load4(s + n - 4) << (8 * (n - 4));
+    if (n == 0)
+        return 0;
+    return s[0] | (uint64_t)s[n / 2] << (8 * (n / 2)) | (uint64_t)s[n - 1] << (8 * (n - 1));
 }
 
-/* The high bits of the bytes at the end, fewer than eight of them. */
-static inline uint64_t utf8_high_rest(const uint8_t *s, size_t n) {
-    uint64_t rest = 0;
-    memcpy(&rest, s, n);
-    return rest & UTF8_HIGH;
+/* Whether the 32 bytes here are ASCII. */
+static inline bool utf8_ascii32(const uint8_t *s) {
+    return ((utf8_load8(s) | utf8_load8(s + 8) | utf8_load8(s + 16) | utf8_load8(s + 24)) & UTF8_HIGH) == 0;
 }
 
-/* Past the ASCII bytes: how many there are at the front. */
-static inline size_t utf8_past_ascii(const uint8_t *s, size_t n) {
-    size_t at = 0;
-    while (n - at >= 64 && utf8_high64(s + at) == 0)
-        at += 64;
-    while (n - at >= 16 && utf8_high16(s + at) == 0)
-        at += 16;
-    for (; n - at >= 8; at += 8) {
-        uint64_t high = utf8_eight(s + at) & UTF8_HIGH;
-        if (high != 0)
-            return at + (size_t)__builtin_ctzll(high) / 8;
+/* The rows of the table, for the four bytes that a character begins with, the first one lowest. */
+static inline bool utf8_two(uint32_t four) {
+    return (four & 0xc0e0) == 0x80c0 && (four & 0x1e) != 0;
+}
+
+static inline bool utf8_three(uint32_t four) {
+    return (four & 0xc0c0f0) == 0x8080e0 && (four & 0x200f) != 0 && (four & 0x200f) != 0x200d;
+}
+
+static inline bool utf8_four(uint32_t four) {
+    return (four & 0xc0c0c0f8) == 0x808080f0 && ((four & 7) << 2 | (four >> 12 & 3)) - 1 < 16;
+}
+
+/* Fewer than eight bytes, in a register. */
+static inline bool utf8_rest(uint64_t rest) {
+    while ((rest & UTF8_HIGH) != 0) {
+        rest >>= __builtin_ctzll(rest & UTF8_HIGH) / 8 * 8;
+        uint32_t four = (uint32_t)rest;
+        if (!utf8_two(four) && !utf8_three(four) && !utf8_four(four))
+            return false;
+        rest >>= utf8_two(four) ? 16 : utf8_three(four) ? 24 : 32;
     }
-    uint64_t high = utf8_high_rest(s + at, n - at);
-    return high == 0 ? n : at + (size_t)__builtin_ctzll(high) / 8;
-}
-
-/* The bytes of the character whose first four bytes these are, the first one lowest; 0 where it is none of the table's rows. */
-static inline size_t utf8_character(uint32_t four) {
-    if ((four & 0xc0e0) == 0x80c0)
-        return (four & 0x1e) != 0 ? 2 : 0;
-    if ((four & 0xc0c0f0) == 0x8080e0) {
-        uint32_t row = four & 0x200f;
-        return row != 0 && row != 0x200d ? 3 : 0;
-    }
-    if ((four & 0xc0c0c0f8) == 0x808080f0) {
-        uint32_t plane = (four & 7) << 2 | (four >> 12 & 3);
-        return plane - 1 < 16 ? 4 : 0;
-    }
-    return 0;
+    return true;
 }
 
 static __attribute__((noinline)) bool is_utf8(const uint8_t *s, size_t n) {
-    size_t at = utf8_past_ascii(s, n);
-    while (at < n) {
-        uint32_t four = 0;
-        if (n - at >= 4)
-            memcpy(&four, s + at, 4);
-        else
-            memcpy(&four, s + at, n - at);
-        size_t size = utf8_character(four);
-        if (size == 0)
-            return false;
-        at += size;
-        if (at < n && s[at] < 0x80)
-            at += utf8_past_ascii(s + at, n - at);
+    const uint8_t *end = s + n;
+    while (end - s >= 8) {
+        uint64_t high = utf8_load8(s) & UTF8_HIGH;
+        if (high == 0) {
+            for (s += 8; end - s >= 32 && utf8_ascii32(s); s += 32)
+                ;
+            continue;
+        }
+        s += __builtin_ctzll(high) / 8;
+        if (end - s < 4)
+            break;
+        do {
+            uint32_t four = utf8_load4(s);
+            if (utf8_two(four))
+                s += 2;
+            else if (utf8_three(four))
+                s += 3;
+            else if (utf8_four(four))
+                s += 4;
+            else
+                return false;
+        } while (end - s >= 4 && *s >= 0x80);
     }
-    return true;
+    return utf8_rest(utf8_load_rest(s, (size_t)(end - s)));
 }
 
 #endif

@@ -1,0 +1,85 @@
+"""The walk held to the oracle and to the library, input by input."""
+import glob
+import os
+import random
+import struct
+import subprocess
+
+import encoder
+import making
+import paths
+import workloads
+from long import LONG
+from shapes import CUT_KINDS, EVERY_KIND, P2, P3, P4, P5, P6, P7, P9, P11, P12, P12_DEEPER, P13, opaque, with_record, words
+
+SESSIONS = [b"", P2, P3, P4, P5, P6, P7, P9, P11, P12, P12_DEEPER, P13, P9 + P2 + P11, P9 + P3]
+# how the walk is compiled for a comparison with the library, and up to which length an input, its cuts and its changed bytes are tried
+HELD = (("check", making.RELEASE, "as it is measured", 2000), ("check-checked", making.CHECKED, "every access checked", 400))
+# what the oracle tries, at each run and where all is asked for
+SOME = (["200000", "1"], ["--strings"])
+ALL = (["2000000", "2"], ["--strings"], ["--every-byte"], ["--long"])
+
+
+def grown(count):
+    """Random datagrams by the layouts, alone and in runs."""
+    rng = random.Random(5)
+    for number in range(count):
+        wire = None
+        for _ in range(1 + number % 3):
+            wire, _ = encoder.any_datagram(rng, wire)
+        yield bytes(wire.data)
+
+
+def strings():
+    """Strings of every short length, which end where the input ends, or behind which bytes stand that could go on with a character."""
+    for length in range(41):
+        for text in (b"abcdefgh" * 5, "ü€🦀 éa".encode() * 3):
+            yield with_record(1005, words(1) + opaque(b"") + opaque(text[:length]))
+            yield with_record(1008, opaque(text[:length]) + b"\x80" * 8)
+
+
+def captures():
+    for path in sorted(glob.glob(os.path.join(paths.ROOT, "tests", "captures", "*", "*.bin"))):
+        with open(path, "rb") as f:
+            yield f.read()
+
+
+def inputs():
+    yield from SESSIONS
+    yield EVERY_KIND
+    yield from CUT_KINDS
+    yield from (shape(300) for _, _, _, shape in LONG)
+    yield from grown(100)
+    yield from strings()
+    yield from captures()
+    for case in workloads.all_cases():
+        yield from case.inputs[:1]
+
+
+def compared(program, longest):
+    """What check.c prints over the inputs; Failed where the walk differs."""
+    sent = b"".join(struct.pack("<I", len(data)) + data for data in inputs() if len(data) <= longest)
+    ran = subprocess.run([program], input=sent, capture_output=True)
+    said = (ran.stdout + ran.stderr).decode("utf-8", "replace").strip()
+    if ran.returncode:
+        access = next((line for line in said.split("\n") if "ERROR" in line or "runtime error" in line), said)
+        raise making.Failed("the walk is not the library's equal: " + access)
+    return said.split("\n")[-1]
+
+
+def judged(judge, words):
+    """What the oracle prints of the walk; Failed where it differs."""
+    ran = subprocess.run([judge, *words], stdout=subprocess.PIPE)
+    said = ran.stdout.decode("utf-8", "replace").strip().split("\n")
+    if ran.returncode:
+        raise making.Failed(f"the walk is not what the oracle expects ({' '.join(words)}): " + "\n".join(said[-12:]))
+    return said[-1]
+
+
+def check(by_oracle):
+    """A line for each comparison; Failed at the first that is not as it must be."""
+    for name, options, how, longest in HELD:
+        yield f"walk against the library, {how}: {compared(making.check(options, name), longest)}"
+    judge = making.judge()
+    for words in by_oracle:
+        yield f"walk against the oracle, {' '.join(words)}: {judged(judge, words)}"

@@ -1,0 +1,114 @@
+#include "contestants.h"
+
+#include <string.h>
+
+#include "layouts.h"
+#include "walk.h"
+
+/* bench/crate/src/lib.rs: how many datagrams were read, 0 on a refusal; and the standard library's test. */
+size_t crate_datagram(const uint8_t *data, size_t length);
+size_t crate_datagrams(const uint8_t *data, size_t length);
+bool std_is_utf8(const uint8_t *data, size_t length);
+
+static latchplume_answer library(const struct input *in, uint32_t *store) {
+    if (in->run)
+        return latchplume_decode_run(in->data, in->length, store, in->words);
+    return latchplume_decode(in->data, in->length, store, in->words).answer;
+}
+
+static latchplume_answer walked(const struct input *in, uint32_t *store) {
+    if (in->run)
+        return walk_decode_run(in->data, in->length, store, in->words);
+    return walk_decode(in->data, in->length, store, in->words).answer;
+}
+
+static uint64_t ours(const struct input *in) {
+    return library(in, in->store).needed;
+}
+
+static uint64_t walk(const struct input *in) {
+    return walked(in, in->store).needed;
+}
+
+static uint64_t crate(const struct input *in) {
+    return in->run ? crate_datagrams(in->data, in->length) : crate_datagram(in->data, in->length);
+}
+
+/* The bytes, read once: sums that do not wait for one another. */
+static uint64_t floor_sum(const struct input *in) {
+    enum { SUMS = 8 };
+    uint64_t sums[SUMS] = {0}, eight;
+    size_t at = 0;
+    for (; at + sizeof sums <= in->length; at += sizeof sums)
+        for (size_t i = 0; i < SUMS; i++) {
+            memcpy(&eight, in->data + at + sizeof eight * i, sizeof eight);
+            sums[i] += eight;
+        }
+    for (; at < in->length; at++)
+        sums[0] += in->data[at];
+    for (size_t i = 1; i < SUMS; i++)
+        sums[0] += sums[i];
+    return sums[0];
+}
+
+/* The layouts by kind and the lower bits of the format word, in which no two of them are the same. */
+enum { SLOTS = 64 };
+static const struct layout *by_slot[5][SLOTS];
+
+__attribute__((constructor)) static void fill_slots(void) {
+    for (size_t i = 0; i < LAYOUTS_COUNT; i++)
+        by_slot[LAYOUTS[i].kind][LAYOUTS[i].format % SLOTS] = &LAYOUTS[i];
+}
+
+/* Every descriptor's payload, and all fields of those that have a layout. */
+static uint64_t fields(const struct input *in) {
+    size_t count = library(in, in->store).needed;
+    uint64_t sum = 0;
+    for (size_t i = 0; i < count; i++) {
+        const uint32_t *one = in->store + LATCHPLUME_DESCRIPTOR_WORDS * i;
+        sum += latchplume_payload(in->data, in->length, one).count;
+        const struct layout *layout = by_slot[one[LATCHPLUME_KIND]][one[LATCHPLUME_FORMAT] % SLOTS];
+        if (layout == NULL || layout->format != one[LATCHPLUME_FORMAT])
+            continue;
+        union reading reading;
+        layout->read(&reading, in->data, in->length, one);
+        sum += reading.outcome.steps;
+    }
+    return sum;
+}
+
+/* The string of an input that holds one, in the one record of format 1008 of its one sample: its length word is at byte 72. */
+static uint64_t standard(const struct input *in) {
+    const uint8_t *word = in->data + 72;
+    size_t length = (size_t)word[0] << 24 | (size_t)word[1] << 16 | (size_t)word[2] << 8 | word[3];
+    return std_is_utf8(word + 4, length);
+}
+
+const struct contestant CONTESTANTS[] = {
+    {"ours", ours}, {"fields", fields}, {"crate", crate}, {"walk", walk}, {"floor", floor_sum}, {"std", standard},
+};
+const size_t CONTESTANTS_COUNT = sizeof CONTESTANTS / sizeof *CONTESTANTS;
+
+const struct contestant *contestant_of(const char *name) {
+    for (size_t i = 0; i < CONTESTANTS_COUNT; i++)
+        if (strcmp(CONTESTANTS[i].name, name) == 0)
+            return &CONTESTANTS[i];
+    return NULL;
+}
+
+static size_t datagrams_of(const uint32_t *store, latchplume_answer answer) {
+    size_t count = 0;
+    for (size_t i = 0; answer.code == LATCHPLUME_ACCEPTED && i < answer.needed; i++)
+        count += store[LATCHPLUME_DESCRIPTOR_WORDS * i + LATCHPLUME_KIND] == LATCHPLUME_DATAGRAM;
+    return count;
+}
+
+const char *difference(const struct input *in, uint32_t *other_store) {
+    latchplume_answer one = library(in, in->store), other = walked(in, other_store);
+    if (one.code != other.code || one.at != other.at || one.steps != other.steps || one.needed != other.needed)
+        return "the walk answers another code, position, number of steps or of descriptors";
+    size_t bytes = one.code == LATCHPLUME_ACCEPTED ? one.needed * LATCHPLUME_DESCRIPTOR_WORDS * sizeof *in->store : 0;
+    if (memcmp(in->store, other_store, bytes) != 0)
+        return "the walk writes other descriptors";
+    return crate(in) == datagrams_of(in->store, one) ? NULL : "the crate accepts other datagrams";
+}
