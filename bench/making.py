@@ -12,7 +12,7 @@ MADE = os.path.join(ROOT, "target", "bench")
 # a tool, and what has it
 TOOLS = {
     "rt": "the Rattle toolchain that .ci/kit names", "cargo": "Rust's toolchain", "cc": "Debian's package gcc",
-    "ar": "Debian's package binutils", "objcopy": "Debian's package binutils", "valgrind": "Debian's package valgrind",
+    "nm": "Debian's package binutils", "ar": "Debian's package binutils", "objcopy": "Debian's package binutils", "valgrind": "Debian's package valgrind",
 }
 WARNINGS = ["-Wall", "-Wextra", "-Werror"]
 RELEASE = ["-O3"]
@@ -62,6 +62,10 @@ def measure():
     sources = [at(name) for name in ("measure.c", "contestants.c", "walk.c")]
     libraries = [library(), os.path.join(crate(), "libbench_crate.a"), "-lpthread", "-ldl", "-lm", "-Wl,-z,now"]
     return compiled("measure", sources + tools, libraries, RELEASE)
+
+
+def feed():
+    return compiled("feed", [at("feed.c")], [library()], RELEASE)
 
 
 def check(options, name):
