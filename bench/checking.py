@@ -59,7 +59,7 @@ def inputs():
 def compared(program, longest):
     """What check.c prints over the inputs; Failed where the walk differs."""
     sent = b"".join(struct.pack("<I", len(data)) + data for data in inputs() if len(data) <= longest)
-    ran = subprocess.run([program], input=sent, capture_output=True)
+    ran = subprocess.run([program], input=sent, capture_output=True, env={**os.environ, "ASAN_OPTIONS": "detect_leaks=0"})
     said = (ran.stdout + ran.stderr).decode("utf-8", "replace").strip()
     if ran.returncode:
         access = next((line for line in said.split("\n") if "ERROR" in line or "runtime error" in line), said)

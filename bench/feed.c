@@ -1,5 +1,5 @@
-/* Decodes what standard input brings, in one region of memory that is set aside before: a word with a length, and that many bytes, datagram by datagram. The length
-   4294967295 stands for no datagram: the counts of those that were accepted and refused so far are printed then. */
+/* Decodes what standard input brings, in one region of memory that is set aside before: a word with a length, and that many bytes,
+   datagram by datagram. The length 4294967295 stands for no datagram: how many were accepted and refused so far is printed then. */
 #include <stdio.h>
 #include <string.h>
 #include <unistd.h>

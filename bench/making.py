@@ -12,7 +12,8 @@ MADE = os.path.join(ROOT, "target", "bench")
 # a tool, and what has it
 TOOLS = {
     "rt": "the Rattle toolchain that .ci/kit names", "cargo": "Rust's toolchain", "cc": "Debian's package gcc",
-    "nm": "Debian's package binutils", "ar": "Debian's package binutils", "objcopy": "Debian's package binutils", "valgrind": "Debian's package valgrind",
+    "nm": "Debian's package binutils", "ar": "Debian's package binutils", "objcopy": "Debian's package binutils",
+    "valgrind": "Debian's package valgrind",
 }
 WARNINGS = ["-Wall", "-Wextra", "-Werror"]
 RELEASE = ["-O3"]
