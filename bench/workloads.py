@@ -117,8 +117,18 @@ def all_cases():
     yield Case("run", True, False, len(usual), [b"".join(usual)])
     yield one_by_one("late", [late(usual_samples) for _ in range(20)])
     # of small records, which are the most work for a byte, so that the time is the decoder's and less the memory's
-    yield Case("mib1", False, True, 16, [filled(MIB, dense) for _ in range(16)])
-    yield Case("mib16", False, True, 1, [filled(16 * MIB, dense)])
+    yield from mib_cases("", dense)
+
+
+def mib_cases(prefix, samples):
+    """Sixteen inputs of 1 MiB side by side, each with a store of its own, and one of 16 MiB: the same memory."""
+    yield Case(prefix + "mib1", False, True, 16, [filled(MIB, samples) for _ in range(16)])
+    yield Case(prefix + "mib16", False, True, 1, [filled(16 * MIB, samples)])
+
+
+def usual_mib_cases():
+    """The same of typical samples, of which a decoder reads few bytes, so that the time is the memory's more than its own."""
+    return list(mib_cases("usual-", samples_of(typical(1000, 7))))
 
 
 TEXTS = {"utf8-ascii": ascii_text, "utf8-mixed": mixed_text}
