@@ -45,14 +45,22 @@ def archive():
     return output([os.path.join(ROOT, "tests", "library"), "host"], "tests/library host").strip()
 
 
-def cargo(source, made, library):
-    """Builds the comparison from the sources in a folder; answers the program."""
-    for tool, package in (("cargo", "Rust's toolchain"), ("cc", "Debian's package gcc")):
-        if not shutil.which(tool):
-            raise Failed(f"'{tool}' is missing: install {package}")
+def need(tool, package):
+    if not shutil.which(tool):
+        raise Failed(f"'{tool}' is missing: install {package}")
+
+
+def cargo(source, made, library, words=("build",)):
+    """Builds the comparison from the sources in a folder; answers the folder with what was made."""
+    need("cargo", "Rust's toolchain")
+    need("cc", "Debian's package gcc")
     env = {**os.environ, "CARGO_TARGET_DIR": made, "LATCHPLUME_ARCHIVE": library}
-    output(["cargo", "build", "--release", "--offline", "--quiet"], "cargo build", cwd=source, env=env)
-    return os.path.join(made, "release", "judge")
+    output(["cargo", *words, "--release", "--offline", "--quiet"], "cargo " + words[0], cwd=source, env=env)
+    return os.path.join(made, "release")
+
+
+def program(source, made, library):
+    return os.path.join(cargo(source, made, library), "judge")
 
 
 def check_declarations(judge, include=os.path.join(ROOT, "include")):
@@ -65,9 +73,9 @@ def check_declarations(judge, include=os.path.join(ROOT, "include")):
 def judge():
     """The program, built from what is there."""
     check_crate()
-    program = cargo(HERE, MADE, archive())
-    check_declarations(program)
-    return program
+    built = program(HERE, MADE, archive())
+    check_declarations(built)
+    return built
 
 
 def failed(trouble):

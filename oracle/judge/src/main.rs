@@ -1,27 +1,12 @@
 //! Compares the library with the crate; see ../../run.
 
-mod compare;
-mod fault;
-mod grow;
-mod library;
-mod listed;
-mod make;
-mod paper;
-mod random;
-mod shape;
-mod structure;
-mod sweep;
-mod tally;
-mod text;
-mod tree;
-mod value;
-mod work;
-
+use judge::tally::Tally;
+use judge::{compare, fault, library, listed, make, sweep, work};
+use std::path::{Path, PathBuf};
 use std::process::exit;
-use tally::Tally;
 
 const USAGE: &str =
-    "usage: judge N SEED | --every-byte | --strings | --long | --input HEX | --c-checks | --list-faults, each with [--fault K]";
+    "usage: judge N SEED | --every-byte | --strings | --long | --input HEX | --files PATH... | --c-checks | --list-faults, each with [--fault K]";
 
 /// From so many cases on, every format, code and class must have been reached.
 const ENOUGH: u64 = 100_000;
@@ -41,6 +26,23 @@ fn hex(word: &str) -> Vec<u8> {
         fail("--input takes two hex digits for each byte");
     }
     word.as_bytes().chunks(2).map(|pair| digit(pair[0]) << 4 | digit(pair[1])).collect()
+}
+
+/// The bytes of each file; of a folder, those of the files in it, in order of their names.
+fn files(paths: &[&str]) -> Vec<Vec<u8>> {
+    let cannot = |path: &Path, error| fail(&format!("cannot read {}: {error}", path.display()));
+    let mut all: Vec<PathBuf> = Vec::new();
+    for path in paths.iter().map(Path::new) {
+        match std::fs::read_dir(path) {
+            Ok(entries) => {
+                let mut inside: Vec<PathBuf> = entries.flatten().map(|entry| entry.path()).filter(|path| path.is_file()).collect();
+                inside.sort();
+                all.extend(inside);
+            }
+            Err(_) => all.push(path.to_path_buf()),
+        }
+    }
+    all.iter().map(|path| std::fs::read(path).unwrap_or_else(|error| cannot(path, error))).collect()
 }
 
 /// The fault's number, taken out of the arguments.
@@ -73,6 +75,10 @@ fn main() {
             compare::show(&input, fault);
             work::spread(1, fault, |_| input.clone())
         }
+        ["--files", ref paths @ ..] if !paths.is_empty() => {
+            let inputs = files(paths);
+            work::spread(inputs.len() as u64, fault, |case| inputs[case as usize].clone())
+        }
         [cases, seed] => {
             let (cases, seed) = (number(cases, "N"), number(seed, "SEED"));
             listed = listed::check(fault);
@@ -80,7 +86,8 @@ fn main() {
         }
         _ => fail(USAGE),
     };
-    let must_reach = words.len() == 2 && tally.cases >= ENOUGH;
+    // Only random inputs are meant to reach everything.
+    let must_reach = listed.cases > 0 && tally.cases >= ENOUGH;
     report(tally, listed, must_reach)
 }
 
