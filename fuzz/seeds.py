@@ -30,6 +30,12 @@ def records():
     yield shapes.EVERY_KIND
 
 
+def inputs():
+    yield from captures()
+    yield from sessions()
+    yield from records()
+
+
 def own(paths):
     for path in paths:
         with open(path, "rb") as f:
@@ -40,8 +46,7 @@ def write(folder, paths):
     """Puts the seeds into a folder, or the files' bytes where there are files; answers how many there are."""
     shutil.rmtree(folder, ignore_errors=True)
     os.makedirs(folder)
-    found = own(paths) if paths else (data for part in (captures(), sessions(), records()) for data in part)
-    for data in found:
+    for data in own(paths) if paths else inputs():
         # AFL++ takes no empty file, and nothing longer than it may make itself.
         if 0 < len(data) <= LONGEST:
             with open(os.path.join(folder, hashlib.sha256(data).hexdigest()[:16]), "wb") as f:

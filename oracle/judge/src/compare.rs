@@ -5,23 +5,49 @@ use crate::paper::{self, Opened, Reading};
 use crate::shape::*;
 use crate::structure::{self, Held, Node};
 use crate::tally::{same, Checked, Difference, Key, Tally};
-use crate::value::{sixteen, Value};
-use sflow_parser::models::core::{Address, DropReason, SFlowDatagram};
+use crate::value::Value;
+use sflow_parser::models::core::{DropReason, SFlowDatagram};
 use sflow_parser::models::record_flows::{AsPathSegment, AsPathType, UrlDirection};
-use sflow_parser::parsers::{parse_datagram, parse_datagrams, ParseError};
+use sflow_parser::parsers::{parse_datagram, parse_datagrams};
 use std::panic::catch_unwind;
 
 /// A format word that the crate keeps raw in every place.
 const KEPT_RAW: u32 = 4097;
 
 /// What the crate answers: its datagrams, or document 01's code for its refusal.
-type Theirs = Result<Vec<SFlowDatagram>, u32>;
+pub type Theirs = Result<Vec<SFlowDatagram>, u32>;
 
-fn theirs(parse: impl Fn() -> Result<Vec<SFlowDatagram>, ParseError> + std::panic::UnwindSafe) -> Theirs {
+/// The crate's answer to one datagram or to a run of them.
+pub fn theirs(data: &[u8], run: bool) -> Theirs {
+    let parse = || if run { parse_datagrams(data) } else { parse_datagram(data).map(|datagram| vec![datagram]) };
     match catch_unwind(parse) {
         Ok(answer) => answer.map_err(|error| structure::code_of(&error)),
         Err(_) => Err(u32::MAX),
     }
+}
+
+/// Document 01's.
+pub fn reading_of(data: &[u8], run: bool) -> Reading {
+    if run {
+        paper::decode_run(data)
+    } else {
+        paper::decode(data)
+    }
+}
+
+/// The input with a format word that the crate keeps raw for each record that only the crate opens, and its reading, whose answers
+/// must be as they were.
+pub fn brought_inside(data: &[u8], reading: &Reading, run: bool) -> Result<(Vec<u8>, Reading), Difference> {
+    let mut inside = data.to_vec();
+    for Opened { at, .. } in &reading.opened {
+        inside[*at..*at + 4].copy_from_slice(&KEPT_RAW.to_be_bytes());
+    }
+    let again = reading_of(&inside, run);
+    let answer = |of: &Reading| (of.code, of.at, of.steps);
+    same("brought inside: answer", &answer(&again), &answer(reading))?;
+    let shape = |of: &Reading| of.store.iter().map(|d| [d[0], d[2], d[3], d[4], d[5]]).collect::<Vec<_>>();
+    same("brought inside: descriptors", &shape(&again), &shape(reading))?;
+    Ok((inside, again))
 }
 
 /// The library's answer to one datagram or a run: code, position, steps and needed; the header's values; the descriptors.
@@ -65,8 +91,7 @@ impl Judge {
     /// Asks both judges, whatever the first one finds.
     fn judge(&mut self, data: &[u8], reading: &Reading, run: bool) {
         let by_paper = self.answers(data, reading, run);
-        let crates = if run { theirs(|| parse_datagrams(data)) } else { theirs(|| parse_datagram(data).map(|datagram| vec![datagram])) };
-        let by_crate = self.against(data, reading, &crates, run);
+        let by_crate = self.against(data, reading, &theirs(data, run), run);
         self.found.extend([by_paper, by_crate].into_iter().filter_map(Result::err));
     }
 
@@ -217,7 +242,7 @@ impl Judge {
             return self.equal(data, crates, run);
         }
         if run {
-            return self.brought_inside(data, reading, true);
+            return self.inside(data, reading, true);
         }
         self.tally.reach(Key::OpenedAnswer(reading.code, code));
         match (reading.code, code) {
@@ -226,21 +251,12 @@ impl Judge {
             (_, 0) => same("outside: code", &reading.code, &code)?,
             _ => {}
         }
-        self.brought_inside(data, reading, false)
+        self.inside(data, reading, false)
     }
 
-    /// Gives each record that only the crate opens a format word that it keeps raw. The answers must stay as they were, and the crate
-    /// judges them.
-    fn brought_inside(&mut self, data: &[u8], reading: &Reading, run: bool) -> Checked {
-        let mut inside = data.to_vec();
-        for Opened { at, .. } in &reading.opened {
-            inside[*at..*at + 4].copy_from_slice(&KEPT_RAW.to_be_bytes());
-        }
-        let again = if run { paper::decode_run(&inside) } else { paper::decode(&inside) };
-        let answer = |of: &Reading| (of.code, of.at, of.steps);
-        same("brought inside: answer", &answer(&again), &answer(reading))?;
-        let shape = |of: &Reading| of.store.iter().map(|d| [d[0], d[2], d[3], d[4], d[5]]).collect::<Vec<_>>();
-        same("brought inside: descriptors", &shape(&again), &shape(reading))?;
+    /// The crate judges the input with each record that only it opens kept raw.
+    fn inside(&mut self, data: &[u8], reading: &Reading, run: bool) -> Checked {
+        let (inside, again) = brought_inside(data, reading, run)?;
         self.judge(&inside, &again, run);
         Ok(())
     }
@@ -250,7 +266,7 @@ impl Judge {
     fn made_shallow(&mut self, data: &[u8], reading: &Reading, run: bool) -> Checked {
         let mut shallow = data.to_vec();
         shallow[reading.at_limit..reading.at_limit + 4].copy_from_slice(&KEPT_RAW.to_be_bytes());
-        let again = if run { paper::decode_run(&shallow) } else { paper::decode(&shallow) };
+        let again = reading_of(&shallow, run);
         same("made shallow: no fault before", &(again.code != 0 && again.at < reading.at), &false)?;
         self.judge(&shallow, &again, run);
         Ok(())
@@ -309,11 +325,7 @@ impl Judge {
             (Value::Long(long), Held::Long(own)) => long == *own,
             (Value::Block(bytes, 6), Held::Six(own)) => bytes[..6] == *own,
             (Value::Block(bytes, 16), Held::Sixteen(own)) => bytes == *own,
-            (Value::Address(kind, bytes), Held::Address(own)) => match own {
-                Address::Unknown => kind == 0 && bytes == [0; 16],
-                Address::IPv4(four) => kind == 1 && bytes == sixteen(&four.octets()),
-                Address::IPv6(six) => kind == 2 && bytes == six.octets(),
-            },
+            (Value::Address(..), Held::Address(own)) => value == structure::address(own),
             (Value::Span(start, count), Held::Bytes(own)) => data.get(start..start + count) == Some(*own),
             (Value::Span(start, count), Held::Words(own)) => self.is_list(data, start, count, own),
             (Value::Span(start, count), Held::Path(own)) => self.is_path(data, start, count, own),

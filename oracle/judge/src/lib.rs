@@ -9,6 +9,7 @@ pub mod make;
 mod paper;
 mod random;
 mod shape;
+pub mod stored;
 mod structure;
 pub mod sweep;
 pub mod tally;

@@ -1,12 +1,13 @@
 //! Compares the library with the crate; see ../../run.
 
 use judge::tally::Tally;
-use judge::{compare, fault, library, listed, make, sweep, work};
+use judge::{compare, fault, library, listed, make, stored, sweep, work};
 use std::path::{Path, PathBuf};
 use std::process::exit;
 
 const USAGE: &str =
-    "usage: judge N SEED | --every-byte | --strings | --long | --input HEX | --files PATH... | --c-checks | --list-faults, each with [--fault K]";
+    "usage: judge N SEED | --every-byte | --strings | --long | --input HEX | --files PATH... | --store SEED INTO PATH... | --c-checks |
+       --list-faults, each with [--fault K]";
 
 /// From so many cases on, every format, code and class must have been reached.
 const ENOUGH: u64 = 100_000;
@@ -45,6 +46,21 @@ fn files(paths: &[&str]) -> Vec<Vec<u8>> {
     all.iter().map(|path| std::fs::read(path).unwrap_or_else(|error| cannot(path, error))).collect()
 }
 
+/// Writes stored cases and their answers into a folder, as a program's `stdin` and `stdout`.
+fn store(seed: u64, into: &Path, paths: &[&str]) -> Tally {
+    let (cases, tally) = stored::cases(seed, &files(paths));
+    let (mut input, mut output) = (Vec::new(), String::new());
+    for case in &cases {
+        case.put(&mut input);
+        output += &case.line().unwrap_or_else(|found| fail(&format!("{}: {}", found.kind, found.detail)));
+    }
+    for (name, bytes) in [("stdin", &input[..]), ("stdout", output.as_bytes())] {
+        std::fs::write(into.join(name), bytes).unwrap_or_else(|error| fail(&format!("cannot write {name}: {error}")));
+    }
+    println!("{} cases, {} bytes; their answers, {} bytes", cases.len(), input.len(), output.len());
+    tally
+}
+
 /// The fault's number, taken out of the arguments.
 fn fault_of(words: &mut Vec<String>) -> u32 {
     let Some(at) = words.iter().position(|word| word == "--fault") else { return 0 };
@@ -79,6 +95,7 @@ fn main() {
             let inputs = files(paths);
             work::spread(inputs.len() as u64, fault, |case| inputs[case as usize].clone())
         }
+        ["--store", seed, into, ref paths @ ..] => store(number(seed, "SEED"), Path::new(into), paths),
         [cases, seed] => {
             let (cases, seed) = (number(cases, "N"), number(seed, "SEED"));
             listed = listed::check(fault);
@@ -86,8 +103,11 @@ fn main() {
         }
         _ => fail(USAGE),
     };
-    // Only random inputs are meant to reach everything.
-    let must_reach = listed.cases > 0 && tally.cases >= ENOUGH;
+    let must_reach = match words[..] {
+        ["--store", ..] => true,
+        // Only of random inputs the known differences are looked at.
+        _ => listed.cases > 0 && tally.cases >= ENOUGH,
+    };
     report(tally, listed, must_reach)
 }
 

@@ -1,6 +1,7 @@
 //! The crate's own structure, walked in reading order: what each descriptor and each field must be.
 
 use crate::shape::*;
+use crate::value::{sixteen, Value};
 use sflow_parser::models::core::{Address, CounterData, CounterRecord, DropReason, FlowData, FlowRecord, SFlowDatagram};
 use sflow_parser::models::core::{SampleData, SampleRecord};
 use sflow_parser::models::record_flows::{AsPathSegment, HeaderProtocol, UrlDirection};
@@ -47,6 +48,15 @@ pub fn code_of(error: &ParseError) -> u32 {
         ParseError::Io(e) if e.kind() == std::io::ErrorKind::UnexpectedEof => 2,
         ParseError::Io(_) => u32::MAX,
         ParseError::InvalidData(text) => TEXTS.iter().find(|(begin, _)| text.starts_with(begin)).map_or(u32::MAX, |known| known.1),
+    }
+}
+
+/// An address as a field reading answers it.
+pub fn address(of: &Address) -> Value {
+    match of {
+        Address::Unknown => Value::Address(0, [0; 16]),
+        Address::IPv4(four) => Value::Address(1, sixteen(&four.octets())),
+        Address::IPv6(six) => Value::Address(2, six.octets()),
     }
 }
 

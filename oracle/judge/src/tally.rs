@@ -69,6 +69,10 @@ impl Tally {
         *self.reached.entry(key).or_insert(0) += 1;
     }
 
+    pub fn keys(&self) -> impl Iterator<Item = Key> + '_ {
+        self.reached.keys().copied()
+    }
+
     pub fn note(&mut self, found: Difference, input: &[u8]) {
         let seen = Seen { count: 1, smallest: input.to_vec(), detail: found.detail };
         self.merge_seen(found.kind, seen);

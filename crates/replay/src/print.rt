@@ -1,0 +1,99 @@
+// What the lines are made of.
+ghost use Prim.Native.Nat.{_+_, _*_, _≤_, _<_};
+ghost use mathlib.Core.Path.{_≡_};
+ghost use lib.ListN.{length};
+use datagram::decode::Answer;
+use libc::STDOUT_FILENO;
+use xdr::Address;
+
+// What every word of a lent store holds beforehand.
+pub const LENT: u32 = 2779096485;
+
+pub fn octet(b: u8) -> usize
+    ensures { λ r. ⌜ r < 256 ⌝ }
+{
+    b as usize
+}
+
+pub fn answer(a: Answer) {
+    out::number(b" code=", a.code as u64);
+    out::number(b" at=", a.at as u64);
+    out::number(b" steps=", a.steps as u64);
+    out::number(b" needed=", a.needed as u64);
+}
+
+// A type, and sixteen bytes in hexadecimal.
+pub fn address(a: Address) {
+    let bytes = a.bytes;
+    word(b" header=", a.kind);
+    out::text(b",");
+    let mut i = 0;
+    while i < 16 {
+        io::print_hex(STDOUT_FILENO, octet(bytes[i]) as u64, 2);
+        i += 1;
+    }
+}
+
+// How many words from `from` on are as they were lent.
+fn kept(store: &[u32], from: usize) -> usize
+    requires { ⌜ from ≤ length (now store) ⌝ }
+{
+    let mut n = 0;
+    let mut i = from;
+    while i < store.len() {
+        if store[i] == LENT {
+            n += 1;
+        }
+        i += 1;
+    }
+    n
+}
+
+pub fn word(name: &[u8], w: u32) {
+    out::number(name, w as u64);
+}
+
+// The descriptor whose first word is at `at`.
+fn descriptor(store: &[u32], at: usize)
+    requires { ⌜ at + 6 ≤ length (now store) ⌝ }
+{
+    word(b"; ", store[at]);
+    word(b",", store[at + 1]);
+    word(b",", store[at + 2]);
+    word(b",", store[at + 3]);
+    word(b",", store[at + 4]);
+    word(b",", store[at + 5]);
+}
+
+// The first n descriptors.
+fn descriptors(store: &[u32], n: usize)
+    requires { ⌜ 6 * n ≤ length (now store) ⌝ }
+{
+    let mut i = 0;
+    while i < n {
+        descriptor(store, 6 * i);
+        i = i + 1;
+    }
+}
+
+// The end of a line: how many of the store's words are as they were behind the first n descriptors, and those.
+fn behind(store: &[u32], n: usize)
+    requires { ⌜ 6 * n ≤ length (now store) ⌝ }
+{
+    out::number(b" kept=", kept(store, 6 * n) as u64);
+    descriptors(store, n);
+    out::text(b"\n");
+}
+
+// The store that a call leaves: it has descriptors where the code is 0.
+pub fn left(a: Answer, store: &[u32])
+    requires { ⌜ (a .code ≡ 0 → 6 * a .needed ≤ length (now store)) ⌝ }
+{
+    let code = a.code;
+    let n = a.needed;
+    if code == 0 {
+        behind(store, n);
+    } else {
+        behind(store, 0);
+    }
+}
