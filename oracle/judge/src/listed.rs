@@ -1,4 +1,5 @@
-//! The differences that are known, outside the domain: each input with what document 01 and the crate give, as a datagram and as a run.
+//! The differences outside the domain that docs/DIFFERENCES.md lists: each input with what document 01 and the crate give, as a datagram
+//! and as a run.
 
 use crate::fault::Library;
 use crate::shape::{AGGREGATION, MAX_DEPTH, MAX_INPUT};
@@ -34,54 +35,87 @@ fn datagram(format: u32, fields: usize, items: Vec<Frame>) -> Vec<u8> {
     Datagram { version: 5, agent: Item::Address(0, Vec::new()), words: [0, 1, 0], samples }.bytes()
 }
 
-fn flow(format: u32, words: &[u32], more: &[u8]) -> Vec<u8> {
-    let mut bytes: Vec<u8> = words.iter().flat_map(|word| word.to_be_bytes()).collect();
-    bytes.extend_from_slice(more);
-    datagram(1, 7, vec![frame(format, Body::Raw(bytes))])
+fn raw(format: u32, words: &[u32], more: &[u8]) -> Frame {
+    let bytes: Vec<u8> = words.iter().flat_map(|word| word.to_be_bytes()).chain(more.iter().copied()).collect();
+    frame(format, Body::Raw(bytes))
+}
+
+fn flows(items: Vec<Frame>) -> Vec<u8> {
+    datagram(1, 7, items)
+}
+
+fn counter(record: Frame) -> Vec<u8> {
+    datagram(2, 2, vec![record])
+}
+
+fn aggregation(inner: Counted<Frame>) -> Frame {
+    frame(AGGREGATION, Body::Pdus(Counted { said: None, items: vec![inner] }))
 }
 
 /// P12, with the innermost PDU's records.
 fn p12(innermost: Counted<Frame>) -> Vec<u8> {
-    let aggregation = |inner| frame(AGGREGATION, Body::Pdus(Counted { said: None, items: vec![inner] }));
     let mut record = aggregation(innermost);
     for _ in 1..MAX_DEPTH {
         record = aggregation(records(vec![record], None));
     }
-    datagram(1, 7, vec![record])
+    flows(vec![record])
 }
 
-/// A record that the crate opens and refuses with `crates`, and that is kept raw here.
+/// A record that the crate opens and answers with `crates`, and that is kept raw here.
 fn kept_raw(what: &'static str, input: Vec<u8>, crates: u32) -> Row {
     let end = input.len();
-    let crates_run = if crates == 2 { (0, 0) } else { (crates, 0) };
+    let crates_run = match crates {
+        0 => (0, 1),
+        2 => (0, 0),
+        code => (code, 0),
+    };
     Row { what, input, ours: (0, end), crates, ours_run: (0, end), crates_run }
 }
 
-fn rows() -> Vec<Row> {
-    let raw = frame(5, Body::Raw(Vec::new()));
-    let counter = frame(1, Body::Raw(Vec::new()));
-    let mut long = datagram(2, 2, Vec::new());
-    long[20..24].fill(0);
-    long.truncate(24);
-    long.resize(MAX_INPUT + 1, 0);
-    let (input, deep) = (p12(records(Vec::new(), Some(1))), p12(records(vec![raw], None)));
+/// An input that document 01 refuses with `ours`, as a run too.
+fn refused(what: &'static str, input: Vec<u8>, ours: (u32, usize), crates: u32, crates_run: (u32, usize)) -> Row {
+    Row { what, input, ours, crates, ours_run: ours, crates_run }
+}
+
+fn too_long() -> Vec<Row> {
+    let p2: Vec<u8> = [5u32, 0, 0, 1, 0, 0].iter().flat_map(|word| word.to_be_bytes()).collect();
+    let times = MAX_INPUT / p2.len() + 1;
+    let to_length = |mut bytes: Vec<u8>| {
+        bytes.resize(MAX_INPUT + 1, 0);
+        bytes
+    };
     vec![
-        Row { what: "P12 with innermost count 1", input, ours: (8, 192), crates: 2, ours_run: (8, 192), crates_run: (0, 0) },
-        Row {
-            what: "P12 with a raw record in its innermost PDU",
-            input: deep,
-            ours: (8, 192),
-            crates: 0,
-            ours_run: (8, 192),
-            crates_run: (0, 1),
-        },
+        // The crate reads the zeros behind P2 as a datagram of another version.
+        refused("longer than 16,777,216 bytes: P2, and zeros", to_length(p2.clone()), (1, 0), 0, (3, 0)),
+        refused("longer than 16,777,216 bytes: version 4, and zeros", to_length(vec![0, 0, 0, 4]), (1, 0), 3, (3, 0)),
+        refused("longer than 16,777,216 bytes: P2, end to end", p2.repeat(times), (1, 0), 0, (0, times)),
+    ]
+}
+
+fn too_deep() -> Vec<Row> {
+    let inner = aggregation(records(Vec::new(), None));
+    vec![
+        refused("a record at depth 9 that is not there", p12(records(Vec::new(), Some(1))), (8, 192), 2, (0, 0)),
+        refused("a record at depth 9 that the crate keeps raw", p12(records(vec![raw(5, &[], &[])], None)), (8, 192), 0, (0, 1)),
+        refused("an aggregation at depth 9", p12(records(vec![inner], None)), (8, 192), 0, (0, 1)),
+    ]
+}
+
+fn opened() -> Vec<Row> {
+    let (bad, long) = (b"\xff\0\0\0", 104_857_601);
+    let flow = |format, words: &[u32], more: &[u8]| flows(vec![raw(format, words, more)]);
+    let unknown = raw(1, &[0], &[]);
+    vec![
         kept_raw("flow record 1017, empty", flow(1017, &[], &[]), 2),
         kept_raw("flow record 1 of enterprise 4413, empty", flow(4413 << 12 | 1, &[], &[]), 2),
-        kept_raw("flow record 1038 with an ill-formed string", flow(1038, &[1], b"\xff\0\0\0"), 7),
-        kept_raw("flow record 2001 with length 104,857,601", flow(2001, &[104_857_601], &[]), 5),
-        kept_raw("counter record 1, empty", datagram(2, 2, vec![counter]), 2),
-        // The crate reads zeros behind P2 as a datagram of another version.
-        Row { what: "P2 padded to 16,777,217 bytes", input: long, ours: (1, 0), crates: 0, ours_run: (1, 0), crates_run: (3, 0) },
+        kept_raw("flow record 1027, as the crate takes it", flow(1027, &[7], &[]), 0),
+        kept_raw("flow record 1038, its string not UTF-8", flow(1038, &[1], bad), 7),
+        kept_raw("flow record 2001, its length above 104,857,600", flow(2001, &[long], &[]), 5),
+        refused("flow record 1017, empty, and a fault behind it", flows(vec![raw(1017, &[], &[]), unknown]), (6, 80), 2, (0, 0)),
+        kept_raw("counter record 1, empty", counter(raw(1, &[], &[])), 2),
+        kept_raw("counter record 3002, as the crate takes it", counter(raw(3002, &[7], &[])), 0),
+        kept_raw("counter record 1005, its string not UTF-8", counter(raw(1005, &[1], bad)), 7),
+        kept_raw("counter record 1005, its length above 104,857,600", counter(raw(1005, &[long], &[])), 5),
     ]
 }
 
@@ -100,7 +134,7 @@ fn check_row(row: &Row, library: &Library) -> Checked {
 
 pub fn check(fault: u32) -> Tally {
     let (mut tally, library) = (Tally::default(), Library { fault });
-    for row in rows() {
+    for row in too_long().into_iter().chain(too_deep()).chain(opened()) {
         tally.cases += 1;
         if let Err(found) = check_row(&row, &library) {
             tally.differ += 1;

@@ -116,6 +116,9 @@ fn report(tally: Tally, listed: Tally, must_reach: bool) {
     println!("accepted: {} of {}, {} bytes on average", tally.accepted, tally.cases, tally.bytes / tally.cases.max(1));
     let unreached = if must_reach { tally.unreached() } else { Vec::new() };
     unreached.iter().for_each(|what| println!("never reached: {what}"));
+    if listed.cases > 0 {
+        println!("outside, as docs/DIFFERENCES.md lists them: {} inputs", listed.cases);
+    }
     listed.print_differences();
     tally.print_differences();
     let differ = tally.differ + listed.differ;

@@ -17,6 +17,8 @@ pub enum Key {
     Raw(u32),
     Depth(u32),
     Refusal(u32, Place),
+    /// One of `SEEN`, in an accepted datagram.
+    Seen(&'static str),
     /// Outside the domain: a record that only the crate opens; the answers of document 01 and of the crate; the crate's answer
     /// where a record would begin at depth 9, and where the input is too long.
     Opened(u32, u32),
@@ -24,6 +26,13 @@ pub enum Key {
     Deep(u32),
     Long(u32),
 }
+
+/// What accepted datagrams hold besides: address types, strings, and bytes that are to be passed over.
+pub const AGENTS: [&str; 3] = ["agent 0", "agent 1", "agent 2"];
+pub const NOT_ASCII: &str = "string that is not ASCII";
+pub const RUBBISH: &str = "pad that is not zero";
+pub const LEFT: &str = "bytes left over in a record";
+pub const BEHIND: &str = "bytes behind the datagram";
 
 pub struct Difference {
     pub kind: String,
@@ -146,6 +155,7 @@ fn named(key: Key) -> (String, String) {
         Key::Raw(kind) => ("kept raw".to_string(), KINDS[kind as usize].to_string()),
         Key::Depth(depth) => text("record at depth", depth),
         Key::Refusal(code, place) => (format!("refused with {code} in"), format!("{place:?}")),
+        Key::Seen(what) => ("accepted, with".to_string(), what.replace(' ', "-")),
         Key::Opened(kind, format) => {
             let own = format!("{}:{}", format >> 12, format & 0xfff);
             (format!("outside, {} record that the crate opens", KINDS[kind as usize]), own)
@@ -159,6 +169,7 @@ fn named(key: Key) -> (String, String) {
 /// Every sample and flow format, code and class of refusal, and every record that only the crate opens.
 fn required() -> Vec<Key> {
     let mut all = vec![Key::Raw(SAMPLE), Key::Raw(FLOW), Key::Raw(COUNTER), Key::Code(0), Key::RunCode(0), Key::Deep(0), Key::Deep(2)];
+    all.extend(AGENTS.into_iter().chain([NOT_ASCII, RUBBISH, LEFT, BEHIND]).map(Key::Seen));
     all.extend((2..=9).map(Key::Code));
     all.extend((3..=9).map(Key::RunCode));
     all.extend((2..=7).chain(10..=11).map(Key::FieldCode));
