@@ -1,10 +1,12 @@
 /* What AFL++ runs: each input goes to the comparison of ../oracle/judge, and a difference ends the process.
    An argument is the number of a deliberate fault, to see that it is found. */
+#include <signal.h>
 #include <stdint.h>
 #include <stdio.h>
 #include <stdlib.h>
 #include <string.h>
 #include <sys/mman.h>
+#include <sys/prctl.h>
 #include <unistd.h>
 
 #define LONGEST (1 << 20)
@@ -29,6 +31,8 @@ int main(int count, char **words)
     uint8_t *end = end_of_room();
     uint32_t fault = count > 1 ? (uint32_t)strtoul(words[1], NULL, 10) : 0;
     __AFL_INIT();
+    /* A child that waits for its next input ends with AFL++. */
+    prctl(PR_SET_PDEATHSIG, SIGKILL);
     const unsigned char *lent = __AFL_FUZZ_TESTCASE_BUF;
     while (__AFL_LOOP(100000)) {
         size_t length = __AFL_FUZZ_TESTCASE_LEN;

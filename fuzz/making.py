@@ -18,7 +18,7 @@ COUNTED = "-fsanitize-coverage=trace-pc-guard,trace-cmp"
 
 
 def script(*path):
-    """A script of this repository as a module. `tests/library` does its work when it is loaded."""
+    """A script of this repository as a module. Where it does its work when it is loaded, as tests/library does, that is for `host`."""
     name = os.path.join(ROOT, *path)
     loader = importlib.machinery.SourceFileLoader("_".join(path), name)
     module = importlib.util.module_from_spec(importlib.util.spec_from_loader(loader.name, loader))
@@ -33,9 +33,10 @@ def script(*path):
 
 def library():
     """The module that `tests/library` compiles, compiled once more with the edges counted."""
+    plain = building.archive()
     steps = script("tests", "library")
     made = os.path.join(MADE, "libhost.a")
-    with open(os.path.join(ROOT, "target", "native", "host.stamp")) as f:
+    with open(os.path.join(os.path.dirname(plain), "host.stamp")) as f:
         now = f.read() + COUNTED
     stamp = os.path.join(MADE, "host.stamp")
     if not steps.is_made(stamp, now, made):

@@ -83,6 +83,8 @@ impl Judge {
         self.see(data, &one);
         self.judge(data, &one, false);
         self.judge(data, &run, true);
+        let parts = (0..3).try_for_each(|pick| self.parts(data, one.steps * 3 + pick));
+        self.found.extend(parts.err());
         self.tally.differ += u64::from(!self.found.is_empty());
         for found in std::mem::take(&mut self.found) {
             self.tally.note(found, data);
@@ -259,6 +261,20 @@ impl Judge {
         let expected = if inside { (changed[2] as usize, changed[3] as usize) } else { (0, 0) };
         let payload = self.library.payload(data, &changed);
         same("payload of a changed descriptor", &(payload.start, payload.count), &expected)
+    }
+
+    /// A segment and a list's word in places that no answer named.
+    fn parts(&self, data: &[u8], pick: usize) -> Checked {
+        let at = if pick % 16 == 15 { usize::MAX - pick } else { pick * 13 % (data.len() + 5) };
+        let segment = self.library.next_segment(data, at);
+        let (outcome, kind, path) = paper::segment(data, at);
+        same("segment anywhere: outcome", &(segment.outcome.code, segment.outcome.at, segment.outcome.steps), &outcome)?;
+        same("segment anywhere", &(segment.kind, segment.path.start, segment.path.count), &(kind, path.0, path.1))?;
+        let (count, n) = (pick % 9, if pick % 17 == 16 { usize::MAX / 4 + 1 } else { pick % 8 });
+        let word = n.checked_mul(4).and_then(|skipped| data.get(at.checked_add(skipped)?..)?.first_chunk::<4>());
+        let expected = word.filter(|_| n < count).map_or((false, 0), |word| (true, u32::from_be_bytes(*word)));
+        let listed = self.library.list_word(data, at, count, n);
+        same("list's word anywhere", &(listed.present, listed.value), &expected)
     }
 
     /// The library against the crate, as far as the input lies in the domain; what lies outside is counted, and brought inside.

@@ -347,3 +347,19 @@ pub fn fields(data: &[u8], descriptor: &[u32; 6], layout: &Layout) -> ((u32, usi
     }
     ((0, cursor.at, cursor.steps), values)
 }
+
+/// What is answered for the AS path segment at a position: code, position and steps; its type, and its list's start and count.
+pub fn segment(data: &[u8], at: usize) -> ((u32, usize, usize), u32, (usize, usize)) {
+    if data.len() > MAX_INPUT {
+        return ((1, 0, 0), 0, (0, 0));
+    }
+    if at > data.len() {
+        return ((10, 0, 0), 0, (0, 0));
+    }
+    let mut cursor = Cursor::new(data, at, data.len());
+    let read = cursor.word().and_then(|kind| Ok((kind, cursor.list()?)));
+    match read {
+        Ok((kind, list)) => ((0, cursor.at, cursor.steps), kind, list),
+        Err(refusal) => ((refusal.code, refusal.at, cursor.steps), 0, (0, 0)),
+    }
+}
