@@ -1,12 +1,11 @@
 //! The differences outside the domain that docs/DIFFERENCES.md lists: each input with what document 01 and the crate give, as a datagram
 //! and as a run.
 
+use crate::compare::theirs;
 use crate::fault::Library;
 use crate::shape::{AGGREGATION, MAX_DEPTH, MAX_INPUT};
-use crate::structure::code_of;
 use crate::tally::{same, Checked, Tally};
 use crate::tree::*;
-use sflow_parser::parsers::{parse_datagram, parse_datagrams};
 
 struct Row {
     what: &'static str,
@@ -126,9 +125,9 @@ fn check_row(row: &Row, library: &Library) -> Checked {
     let name = |part: &str| format!("listed, {}: {part}", row.what);
     same(&name("code and position"), &(ours.code, ours.at), &row.ours)?;
     same(&name("code and position as a run"), &(run.code, run.at), &row.ours_run)?;
-    let crates = parse_datagram(&row.input).map_or_else(|error| code_of(&error), |_| 0);
+    let crates = theirs(&row.input, false).map_or_else(|code| code, |_| 0);
     same(&name("the crate's code"), &crates, &row.crates)?;
-    let crates = parse_datagrams(&row.input).map_or_else(|error| (code_of(&error), 0), |all| (0, all.len()));
+    let crates = theirs(&row.input, true).map_or_else(|code| (code, 0), |all| (0, all.len()));
     same(&name("the crate's code and datagrams as a run"), &crates, &row.crates_run)
 }
 

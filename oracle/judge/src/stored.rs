@@ -125,7 +125,7 @@ const TRIED: u64 = 200_000;
 /// None is longer than this.
 const LONGEST: usize = 260;
 /// An input is taken where it reaches a format, code or class that fewer than so many before it reach.
-const EACH: usize = 15;
+const EACH: usize = 14;
 
 /// The inputs that are taken, and what they reach.
 fn chosen(seed: u64) -> (Vec<Vec<u8>>, Tally) {
