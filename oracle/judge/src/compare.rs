@@ -2,9 +2,10 @@
 
 use crate::fault::Library;
 use crate::paper::{self, Opened, Reading};
+use crate::reach;
 use crate::shape::*;
 use crate::structure::{self, Held, Node};
-use crate::tally::{same, Checked, Difference, Key, Tally, AGENTS, BEHIND, LEFT, NOT_ASCII, RUBBISH};
+use crate::tally::{same, Checked, Difference, Key, Tally};
 use crate::value::Value;
 use sflow_parser::models::core::{DropReason, SFlowDatagram};
 use sflow_parser::models::record_flows::{AsPathSegment, AsPathType, UrlDirection};
@@ -79,8 +80,8 @@ impl Judge {
         self.tally.cases += 1;
         self.tally.bytes += data.len() as u64;
         let (one, run) = (paper::decode(data), paper::decode_run(data));
-        self.count(&one, &run);
-        self.see(data, &one);
+        reach::count(&mut self.tally, &one, &run);
+        reach::see(&mut self.tally, data, &one);
         self.judge(data, &one, false);
         self.judge(data, &run, true);
         let parts = (0..3).try_for_each(|pick| self.parts(data, one.steps * 3 + pick));
@@ -96,63 +97,6 @@ impl Judge {
         let by_paper = self.answers(data, reading, run);
         let by_crate = self.against(data, reading, &theirs(data, run), run);
         self.found.extend([by_paper, by_crate].into_iter().filter_map(Result::err));
-    }
-
-    fn count(&mut self, reading: &Reading, run: &Reading) {
-        self.tally.reach(Key::Code(reading.code));
-        self.tally.reach(Key::RunCode(run.code));
-        if reading.code >= 2 {
-            self.tally.reach(Key::Refusal(reading.code, reading.place));
-        }
-        self.tally.accepted += u64::from(reading.code == 0);
-        for [kind, format, _, _, _, depth] in &reading.store {
-            match (*kind, layout_of(*kind, *format)) {
-                (SAMPLE, Some(_)) => self.tally.reach(Key::Sample(*format)),
-                (FLOW, Some(_)) => self.tally.reach(Key::Flow(*format)),
-                (DATAGRAM | PDU, _) => {}
-                (kind, _) => self.tally.reach(Key::Raw(kind)),
-            }
-            if matches!(*kind, FLOW | COUNTER) {
-                self.tally.reach(Key::Depth(*depth));
-            }
-        }
-        for opened in &reading.opened {
-            self.tally.reach(Key::Opened(opened.kind, opened.format));
-        }
-    }
-
-    /// What an accepted datagram holds besides its formats.
-    fn see(&mut self, data: &[u8], reading: &Reading) {
-        if let Some(Value::Address(kind, _)) = reading.header.get(1) {
-            self.tally.reach(Key::Seen(AGENTS[*kind as usize]));
-        }
-        if reading.code == 0 && reading.at < data.len() {
-            self.tally.reach(Key::Seen(BEHIND));
-        }
-        for descriptor in &reading.store {
-            let [kind, format, start, length, _, _] = *descriptor;
-            let end = (start + length) as usize;
-            if matches!(kind, SAMPLE | FLOW | COUNTER) && data[end..end.next_multiple_of(4)].iter().any(|byte| *byte != 0) {
-                self.tally.reach(Key::Seen(RUBBISH));
-            }
-            if let (FLOW, Some(layout)) = (kind, layout_of(kind, format)) {
-                self.see_flow(data, descriptor, layout);
-            }
-        }
-    }
-
-    fn see_flow(&mut self, data: &[u8], descriptor: &[u32; 6], layout: &Layout) {
-        let ((_, at, _), values) = paper::fields(data, descriptor, layout);
-        if layout.format != AGGREGATION && at < (descriptor[2] + descriptor[3]) as usize {
-            self.tally.reach(Key::Seen(LEFT));
-        }
-        for (shape, value) in layout.shapes.iter().zip(&values) {
-            if let (Shape::Text, Value::Span(start, count)) = (shape, value) {
-                if !data[*start..start + count].is_ascii() {
-                    self.tally.reach(Key::Seen(NOT_ASCII));
-                }
-            }
-        }
     }
 
     /// The library with this much room, and whether the store is as it must be.

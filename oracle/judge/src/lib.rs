@@ -8,6 +8,7 @@ pub mod listed;
 pub mod make;
 mod paper;
 mod random;
+mod reach;
 mod shape;
 pub mod stored;
 mod structure;
