@@ -55,7 +55,7 @@ def harness():
     building.need("afl-clang-fast", "Debian's package afl++")
     os.makedirs(MADE, exist_ok=True)
     words = ["rustc", "--lib", "--package", "judge", "--crate-type", "staticlib"]
-    judge = os.path.join(building.cargo(building.HERE, os.path.join(MADE, "judge"), library(), words), "libjudge.a")
+    judge = os.path.join(building.made_by_cargo(words, building.HERE, os.path.join(MADE, "judge"), library()), "libjudge.a")
     unseen, made = os.path.join(MADE, "unseen"), os.path.join(MADE, "harness")
     with open(unseen, "w") as f:
         f.write("src: harness.c\n")

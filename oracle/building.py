@@ -50,8 +50,8 @@ def need(tool, package):
         raise Failed(f"'{tool}' is missing: install {package}")
 
 
-def cargo(source, made, library, words=("build",)):
-    """Builds the comparison from the sources in a folder; answers the folder with what was made."""
+def made_by_cargo(words, source, made, library):
+    """Runs cargo on the sources in a folder; answers the folder with what was made."""
     need("cargo", "Rust's toolchain")
     need("cc", "Debian's package gcc")
     env = {**os.environ, "CARGO_TARGET_DIR": made, "LATCHPLUME_ARCHIVE": library}
@@ -59,8 +59,9 @@ def cargo(source, made, library, words=("build",)):
     return os.path.join(made, "release")
 
 
-def program(source, made, library):
-    return os.path.join(cargo(source, made, library), "judge")
+def cargo(source, made, library):
+    """Builds the comparison from the sources in a folder; answers the program."""
+    return os.path.join(made_by_cargo(["build"], source, made, library), "judge")
 
 
 def check_declarations(judge, include=os.path.join(ROOT, "include")):
@@ -73,9 +74,9 @@ def check_declarations(judge, include=os.path.join(ROOT, "include")):
 def judge():
     """The program, built from what is there."""
     check_crate()
-    built = program(HERE, MADE, archive())
-    check_declarations(built)
-    return built
+    program = cargo(HERE, MADE, archive())
+    check_declarations(program)
+    return program
 
 
 def failed(trouble):
