@@ -22,6 +22,8 @@ use Rattle.reading.proofs.Flat.{other-bare}
 use Rattle.reading.proofs.Forward.{forward-times}
 use Rattle.flows.specs.declared.put.Pen.{Pen}
 use Rattle.flows.specs.declared.put.Written.{Written}
+use Rattle.flows.specs.declared.put.Flat.{Flat}
+use Rattle.flows.specs.Passing.{Flat-of}
 use Rattle.flows.specs.Written.{Ready, Put, written, placed, Filled, filled, fills}
 
 -- what a pass leaves, in its parts
@@ -413,26 +415,54 @@ module _ (left : ℕ) (s l : List ℕ) (at : ℕ) (pen : Pen) (g : Ready s l pen
 pub one-less : {left : ℕ} → left ≤ 8 → left - 1 ≤ 8
 one-less h = omega arith
 
--- ---- a flow record of a sample that is no aggregation
-module _ (s l : List ℕ) (at : ℕ) (pen : Pen) (g : Ready s l pen (follow (flow 8 8) s (from at))) {n f : ℕ} (v : n ≡ be4 s (at + 4)) (u : f ≡ be4 s at) (z : be4 s at ≡ 1016 → ⊥) where
-  flat-inside : filled (pen .next + 1) l ≡ fills (behind pen (me pen)) (follow (opened (flows (pdu (8 - (8 - 1)) (flow 8 (8 - 1)))) f) (take (at + 8 + n) s) (from (at + 8))) l
-  flat-inside = data-none (8 - 1) f (take (at + 8 + n) s) l (at + 8) (behind pen (me pen)) (rw (← u) at z)
+-- ---- a flow record that is no aggregation
+module _ (left : ℕ) (s l : List ℕ) (at : ℕ) (pen : Pen) (g : Ready s l pen (follow (flow 8 left) s (from at))) {n f : ℕ} (v : n ≡ be4 s (at + 4)) (u : f ≡ be4 s at) (z : be4 s at ≡ 1016 → ⊥) where
+  flat-inside : filled (pen .next + 1) l ≡ fills (behind pen (me pen)) (follow (opened (flows (pdu (8 - (left - 1)) (flow 8 (left - 1)))) f) (take (at + 8 + n) s) (from (at + 8))) l
+  flat-inside = data-none (left - 1) f (take (at + 8 + n) s) l (at + 8) (behind pen (me pen)) (rw (← u) at z)
 
   pub flat-own : 6 * pen .next + 6 ≤ length l
-  flat-own = record-own 8 s l at pen g v u (me pen) flat-inside
+  flat-own = record-own left s l at pen g v u (me pen) flat-inside
 
   pub flat-kept : {l″ : List ℕ} (ws : List ℕ) → l″ ≡ write l (6 * pen .next) ws → length l″ ≡ length l
-  flat-kept = record-kept 8 s l at pen g v u (me pen) flat-inside
+  flat-kept = record-kept left s l at pen g v u (me pen) flat-inside
 
-  pub flat-placed : {l″ : List ℕ} {p : ℕ} → l″ ≡ write l (6 * pen .next) (2 ∷ f ∷ (at + 8) ∷ n ∷ pen .parent ∷ 1 ∷ []) → p ≡ padded n → a-put (at + 8 + p) (pen .next + 1) l″ ≡ placed pen (follow (flow 8 8) s (from at)) l
-  flat-placed q = record-placed 8 s l at pen g v u flat-inside q
+  pub flat-placed : {l″ : List ℕ} {p : ℕ} → l″ ≡ write l (6 * pen .next) (2 ∷ f ∷ (at + 8) ∷ n ∷ pen .parent ∷ (9 - left) ∷ []) → p ≡ padded n → a-put (at + 8 + p) (pen .next + 1) l″ ≡ placed pen (follow (flow 8 left) s (from at)) l
+  flat-placed q = record-placed left s l at pen g v u flat-inside q
 
 -- its format word, where it is the first of some
-pub flat-first : (n : ℕ) (s l : List ℕ) (at base parent next : ℕ) → Ready s l (a-pen base parent next) (times n (follow (flow 8 8)) s (from at)) → 0 < n → at + 4 ≤ length s
-flat-first n s l at base parent next g z = record-word 8 s l at (a-pen base parent next) (ready-first (flow 8 8) n s l at base parent next g z)
+pub flat-first : (left n : ℕ) (s l : List ℕ) (at base parent next : ℕ) → Ready s l (a-pen base parent next) (times n (follow (flow 8 left)) s (from at)) → 0 < n → at + 4 ≤ length s
+flat-first left n s l at base parent next g z = record-word left s l at (a-pen base parent next) (ready-first (flow 8 left) n s l at base parent next g z)
 
 pub no-aggregation : (s : List ℕ) (at : ℕ) {f : ℕ} → f ≡ be4 s at → (f ≡ 1016 → ⊥) → be4 s at ≡ 1016 → ⊥
 no-aggregation s at u z e = z (u ∙ e)
+
+-- ---- those in a row, up to an aggregation
+module _ {left : ℕ} {s l : List ℕ} {at n : ℕ} {pen : Pen} {r : Flat} {l′ : List ℕ} (h : Flat-of left s l at n pen r l′) where
+  pub flat-ready : Ready s l′ (a-pen (pen .base) (pen .parent) (r .next)) (times (r .rest) (follow (flow 8 left)) s (from (r .at)))
+  flat-ready = h .ready
+
+  -- the aggregation that stopped them
+  pub flat-next : 0 < r .rest → Ready s l′ (a-pen (pen .base) (pen .parent) (r .next)) (follow (flow 8 left) s (from (r .at)))
+  flat-next z = ready-first (flow 8 left) (r .rest) s l′ (r .at) (pen .base) (pen .parent) (r .next) (h .ready) z
+
+  pub flat-length : length l′ ≡ length l
+  unfolding placed
+  flat-length = sym (write-length _ _ _) ∙ ap (λ (x : Put). length (x .store)) (h .same) ∙ write-length _ _ _
+
+  -- what a turn leaves: those alone, or those and the aggregation
+  module _ {m : ℕ} {u : Put} (k : length l ≡ m) (e : placed pen (times n (follow (flow 8 left)) s (from at)) l ≡ u) where
+    pub flat-last : (length l′ ≡ m) × Ready s l′ (a-pen (pen .base) (pen .parent) (r .next)) (times (r .rest) (follow (flow 8 left)) s (from (r .at)))
+        × (placed (a-pen (pen .base) (pen .parent) (r .next)) (times (r .rest) (follow (flow 8 left)) s (from (r .at))) l′ ≡ u)
+    flat-last = (flat-length ∙ k, h .ready, h .same ∙ e)
+
+    pub flat-turn : {w : Written} {l″ : List ℕ} → written w l″ ≡ placed (a-pen (pen .base) (pen .parent) (r .next)) (follow (flow 8 left) s (from (r .at))) l′ → 0 < r .rest
+        → (length l″ ≡ m) × Ready s l″ (a-pen (pen .base) (pen .parent) (w .next)) (times (r .rest - 1) (follow (flow 8 left)) s (from (w .at)))
+        × (placed (a-pen (pen .base) (pen .parent) (w .next)) (times (r .rest - 1) (follow (flow 8 left)) s (from (w .at))) l″ ≡ u)
+    flat-turn {w} {l″} i z = (
+      put-kept (a-pen (pen .base) (pen .parent) (r .next)) _ l′ i ∙ flat-length ∙ k,
+      ready-next (flow 8 left) (r .rest) s l′ (r .at) (pen .base) (pen .parent) (r .next) i (h .ready) z,
+      put-turn (flow 8 left) (r .rest) s l′ (r .at) (pen .base) (pen .parent) (r .next) i (h .ready) z (h .same ∙ e),
+    )
 
 pub ruleset flat = (
   kept-on,

@@ -1,5 +1,5 @@
 -- What is passed ahead of the full reading, in its terms. Assumes nothing.
-use Prim.Native.Nat.{ℕ, _+_}
+use Prim.Native.Nat.{ℕ, _+_, _≤_}
 use mathlib.Core.Path.{_≡_}
 use mathlib.Core.List.{List}
 use Rattle.reading.specs.Script.{nothing, give}
@@ -31,7 +31,8 @@ pub record Ahead-of (s : List ℕ) (c : Cursor) (n k : ℕ) (r : Ahead) : Type 0
   pub scan : Scan s (r .cursor) (r .count)
   pub same : counted (r .count) (times (r .rest) (follow (flow 8 8)) s (place (r .cursor))) ≡ counted k (times n (follow (flow 8 8)) s (place c))
 
--- to write on from here, into the store l′, is to write n records of a sample at `at` into l
-pub record Flat-of (s l : List ℕ) (at n : ℕ) (pen : Pen) (r : Flat) (l′ : List ℕ) : Type 0 where
-  pub ready : Ready s l′ (record { base = pen .base; parent = pen .parent; next = r .next }) (times (r .rest) (follow (flow 8 8)) s (from (r .at)))
-  pub same : placed (record { base = pen .base; parent = pen .parent; next = r .next }) (times (r .rest) (follow (flow 8 8)) s (from (r .at))) l′ ≡ placed pen (times n (follow (flow 8 8)) s (from at)) l
+-- to write on from here, into the store l′, is to write n records at `at` into l
+pub record Flat-of (left : ℕ) (s l : List ℕ) (at n : ℕ) (pen : Pen) (r : Flat) (l′ : List ℕ) : Type 0 where
+  pub ready : Ready s l′ (record { base = pen .base; parent = pen .parent; next = r .next }) (times (r .rest) (follow (flow 8 left)) s (from (r .at)))
+  pub same : placed (record { base = pen .base; parent = pen .parent; next = r .next }) (times (r .rest) (follow (flow 8 left)) s (from (r .at))) l′ ≡ placed pen (times n (follow (flow 8 left)) s (from at)) l
+  pub few : r .rest ≤ n

@@ -69,9 +69,10 @@ pub fn put_flow_records(
     let mut next = pen.next;
     let mut rest = n;
     while 0 < rest {
-        let w = put_flow_record(
+        let flat = put_flat_records(
             s,
             cur,
+            rest,
             left,
             &mut *store,
             Pen {
@@ -80,9 +81,25 @@ pub fn put_flow_records(
                 next: next,
             },
         );
-        cur = w.at;
-        next = w.next;
-        rest = rest - 1;
+        cur = flat.at;
+        next = flat.next;
+        rest = flat.rest;
+        if 0 < rest {
+            let w = put_flow_record(
+                s,
+                cur,
+                left,
+                &mut *store,
+                Pen {
+                    base: base,
+                    parent: parent,
+                    next: next,
+                },
+            );
+            cur = w.at;
+            next = w.next;
+            rest = rest - 1;
+        }
     }
     Written {
         at: cur,
@@ -97,11 +114,12 @@ pub struct Flat {
     pub rest: u32,
 }
 
-// One flow record of a sample that is no aggregation, and so holds no others.
-fn put_flat_record(s: &[u8], at: usize, store: &mut [u32], pen: Pen) -> Written
+// One flow record that is no aggregation, and so holds no others.
+fn put_flat_record(s: &[u8], at: usize, left: usize, store: &mut [u32], pen: Pen) -> Written
+    requires { ⌜ left ≤ 8 ⌝ }
     requires { ⌜ (be4 (now s) at ≡ 1016 → ⊥) ⌝ }
-    requires { ⌜ Ready (now s) (now store) pen (follow (flow 8 8) (now s) (from at)) ⌝ }
-    ensures { λ r. ⌜ written r (now (store .exit)) ≡ placed pen (follow (flow 8 8) (now (s .entry)) (from at)) (now (store .entry)) ⌝ }
+    requires { ⌜ Ready (now s) (now store) pen (follow (flow 8 left) (now s) (from at)) ⌝ }
+    ensures { λ r. ⌜ written r (now (store .exit)) ≡ placed pen (follow (flow 8 left) (now (s .entry)) (from at)) (now (store .entry)) ⌝ }
 {
     let format = load::be32(s, at);
     let length = load::be32(s, at + 4);
@@ -116,7 +134,7 @@ fn put_flat_record(s: &[u8], at: usize, store: &mut [u32], pen: Pen) -> Written
             start: start as u32,
             length: length,
             parent: pen.parent,
-            depth: 1,
+            depth: (9 - left) as u32,
         },
     );
     Written {
@@ -125,10 +143,18 @@ fn put_flat_record(s: &[u8], at: usize, store: &mut [u32], pen: Pen) -> Written
     }
 }
 
-// Of n flow records of a sample, those up to the first aggregation: most samples hold none, and this is one loop.
-pub fn put_flat_records(s: &[u8], at: usize, n: u32, store: &mut [u32], pen: Pen) -> Flat
-    requires { ⌜ Ready (now s) (now store) pen (times n (follow (flow 8 8)) (now s) (from at)) ⌝ }
-    ensures { λ r. ⌜ Flat-of (now (s .entry)) (now (store .entry)) at n pen r (now (store .exit)) ⌝ }
+// Of n flow records in a row, those up to the first aggregation: most samples hold none, and this is one loop.
+pub fn put_flat_records(
+    s: &[u8],
+    at: usize,
+    n: u32,
+    left: usize,
+    store: &mut [u32],
+    pen: Pen,
+) -> Flat
+    requires { ⌜ left ≤ 8 ⌝ }
+    requires { ⌜ Ready (now s) (now store) pen (times n (follow (flow 8 left)) (now s) (from at)) ⌝ }
+    ensures { λ r. ⌜ Flat-of left (now (s .entry)) (now (store .entry)) at n pen r (now (store .exit)) ⌝ }
 {
     let base = pen.base;
     let parent = pen.parent;
@@ -146,6 +172,7 @@ pub fn put_flat_records(s: &[u8], at: usize, n: u32, store: &mut [u32], pen: Pen
         let w = put_flat_record(
             s,
             cur,
+            left,
             &mut *store,
             Pen {
                 base: base,

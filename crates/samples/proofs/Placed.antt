@@ -12,12 +12,12 @@ use Rattle.reading.specs.Cursor.{Out, times, follow}
 use Rattle.reading.specs.Layout.{words, last-number, opened, flow, counter, samples}
 use Rattle.reading.specs.Answer.{size, rows, from}
 use Rattle.reading.proofs.Words.{numbers, row-got}
-use Rattle.reading.proofs.Stored.{write, write-length, write-none}
+use Rattle.reading.proofs.Stored.{write, write-none}
 use Rattle.reading.proofs.Places.{Accepted, ranges-of, Each-at, each-lies, words-lie}
 use Rattle.flows.specs.declared.put.Pen.{Pen}
 use Rattle.flows.specs.declared.put.Written.{Written}
 use Rattle.flows.specs.declared.put.Flat.{Flat}
-use Rattle.flows.specs.Written.{Ready, Put, written, placed, filled, fills}
+use Rattle.flows.specs.Written.{Ready, written, placed, filled, fills}
 use Rattle.flows.specs.Passing.{Flat-of}
 use Rattle.flows.proofs.Placing as placing
 use Rattle.flows.proofs.Placing.{a-pen, a-put, next-is, store-is}
@@ -105,14 +105,7 @@ unfolding follow ranges-of
 raw-filled f s l at pen q e = bare-filled (follow (opened (samples 8) f) s (from at)) pen l (ap (λ (x : Script). ranges-of (follow x s (from at))) (q .is ∙ ap held e))
 
 -- ---- the flow records of a sample: the flat ones, and the others
-module _ {s l : List ℕ} {at n : ℕ} {pen : Pen} {r : Flat} {l′ : List ℕ} (h : Flat-of s l at n pen r l′) where
-  pub flat-ready : Ready s l′ (a-pen (pen .base) (pen .parent) (r .next)) (times (r .rest) (follow (flow 8 8)) s (from (r .at)))
-  flat-ready = h .ready
-
-  pub flat-length : length l′ ≡ length l
-  unfolding placed
-  flat-length = sym (write-length _ _ _) ∙ ap (λ (x : Put). length (x .store)) (h .same) ∙ write-length _ _ _
-
+module _ {s l : List ℕ} {at n : ℕ} {pen : Pen} {r : Flat} {l′ : List ℕ} (h : Flat-of 8 s l at n pen r l′) where
   pub flat-done : r .rest ≡ 0 → filled (r .next) l′ ≡ fills pen (times n (follow (flow 8 8)) s (from at)) l
   flat-done z =
       placed-fills {w = record { at = r .at; next = r .next }} pen (times n (follow (flow 8 8)) s (from at)) l
@@ -121,7 +114,7 @@ module _ {s l : List ℕ} {at n : ℕ} {pen : Pen} {r : Flat} {l′ : List ℕ} 
   pub flat-more : {w : Written} {l″ : List ℕ} → written w l″ ≡ placed (a-pen (pen .base) (pen .parent) (r .next)) (times (r .rest) (follow (flow 8 8)) s (from (r .at))) l′ → filled (w .next) l″ ≡ fills pen (times n (follow (flow 8 8)) s (from at)) l
   flat-more e = placed-fills pen (times n (follow (flow 8 8)) s (from at)) l (e ∙ h .same)
 
-pub ruleset flat = (flat-ready, flat-length, flat-done, flat-more, placing.kept-on, needs)
+pub ruleset flat = (placing.flat-ready, placing.flat-length, flat-done, flat-more, placing.kept-on, needs)
 
 -- ---- an opaque's length that a counter record skips
 module _ (s l : List ℕ) (at : ℕ) (pen : Pen) (g : Ready s l pen (follow counter s (from at))) where

@@ -83,7 +83,7 @@ fn put_sample_flows(s: &[u8], at: usize, n: u32, store: &mut [u32], pen: Pen) ->
 {
     let base = pen.base;
     let parent = pen.parent;
-    let flat = put_flat_records(s, at, n, &mut *store, pen);
+    let flat = put_flat_records(s, at, n, 8, &mut *store, pen);
     let next = flat.next;
     if flat.rest == 0 {
         return next;

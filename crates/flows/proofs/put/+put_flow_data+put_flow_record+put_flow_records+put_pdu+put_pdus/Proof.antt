@@ -1,6 +1,7 @@
 -- The cycle of the second pass: the remaining depth falls at each turn. Assumes nothing.
 use Prim.Native.Nat.{ℕ, _<_, _+_, _*_, _-_}
 use mathlib.Core.Path.{_≡_}
+use native.Mathlib.Omega.{arith}
 use borrow.Author.Needs.{needs}
 use lib.ListN.{length}
 use Rattle.reading.specs.Cursor.{times, follow}
@@ -27,6 +28,7 @@ use Rattle.flows.proofs.put.put_pdus.Reads as put-pdus
 use Rattle.flows.proofs.put.put_pdus.Kinds as put-pdus-kinds
 use Rattle.flows.proofs.put.+put_flow_data+put_flow_record+put_flow_records+put_pdu+put_pdus.Lts-put_pdus as put-pdus-lts
 use Rattle.flows.proofs.put.put.Reads as put-reads
+use Rattle.flows.proofs.put.put_flat_records.Reads as put-flat-records-reads
 use Rattle.xdr.proofs.load.be32.Reads as be32-reads
 use Rattle.xdr.proofs.load.padded.Reads as padded-reads
 use Rattle.flows.proofs.put.+put_flow_data+put_flow_record+put_flow_records+put_pdu+put_pdus.{
@@ -224,19 +226,26 @@ pub +put-flow-data+put-flow-record+put-flow-records+put-pdu+put-pdus-spec :
     (λ c. search putting)  -- put-flow-record-same-length put.rt:91:1
     (λ c. search putting)  -- put-flow-record-returns put.rt:91:1
     )
-    (λ t. put-flow-records-lts.spec
-    (put-flow-record-below t, put-flow-record.Post)
+    (λ t. put-flow-records-lts.spec (
+      put-flat-records-reads.Asked,
+      put-flat-records-reads.Learnt,
+      put-flow-record-below t,
+      put-flow-record.Post,
+    )
     (put-flow-records-at t)
     put-flow-records.Post
     put-flow-records-Inv-loop
     put-flow-records-μ-loop
-    (λ c. search putting)  -- put-flow-records-loop-holds put.rt:68:5
-    (λ c κs. search putting)  -- put-flow-records-put-flow-record-requires put.rt:69:13
-    (λ c. search putting)  -- put-flow-records-sub-rest put.rt:82:16
-    (λ c. search putting)  -- put-flow-records-loop-less put.rt:68:5
-    (λ c. search putting)  -- put-flow-records-loop-again put.rt:68:5
-    (λ c. search putting)  -- put-flow-records-same-length put.rt:51:1
-    (λ c. placing.put-done _ _ _ _ _ _ _ _ (c .before .loop .inv .2) (c .loop-test .left))  -- put-flow-records-returns put.rt:51:1
+    (λ c. search putting)  -- put-flow-records-loop-holds
+    (λ c κs. search putting)  -- put-flow-records-put-flat-records-requires
+    (λ c κs. (omega arith, (search needs, placing.flat-next (c .before .before .before .before .put-flat-records .ensures) (omega arith))))  -- put-flow-records-put-flow-record-requires
+    (λ c. search needs)  -- put-flow-records-sub-rest
+    (λ c. search needs)  -- put-flow-records-loop-less
+    (λ c. placing.flat-turn (c .before .before .before .before .before .before .before .put-flat-records .ensures) (c .before .before .before .before .before .before .before .before .before .before .loop .inv .0) (c .before .before .before .before .before .before .before .before .before .before .loop .inv .2) (c .before .before .put-flow-record .ensures) (omega arith))  -- put-flow-records-loop-again
+    (λ c. search needs)  -- put-flow-records-loop-less-2
+    (λ c. placing.flat-last (c .before .before .before .put-flat-records .ensures) (c .before .before .before .before .before .before .loop .inv .0) (c .before .before .before .before .before .before .loop .inv .2))  -- put-flow-records-loop-again-2
+    (λ c. search putting)  -- put-flow-records-same-length
+    (λ c. placing.put-done _ _ _ _ _ _ _ _ (c .before .loop .inv .2) (c .loop-test .left))  -- put-flow-records-returns
     )
     (λ t. put-pdu-lts.spec (
       be32-reads.Asked,

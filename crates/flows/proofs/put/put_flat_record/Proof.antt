@@ -11,6 +11,8 @@ put-flat-record-spec =
     (λ c κs. search flat)  -- be32-requires-2 put.rt:107:9
     (λ c. search flat)  -- add-start put.rt:108:17
     (λ c. search flat)  -- cast-t14 put.rt:116:20
+    (λ c. search flat)  -- sub-depth
+    (λ c. search flat)  -- cast-depth
     (λ c κs. search flat)  -- put-requires put.rt:110:5
     (λ c. search flat)  -- cast-padded put.rt:123:34
     (λ c κs. search flat)  -- padded-requires put.rt:123:21
