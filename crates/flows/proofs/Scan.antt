@@ -9,12 +9,14 @@ use lib.ListN.{length, take}
 use lib.Seq.{length-take-le}
 use mir.Syntax.{w64}
 use mir.Val.{Fits}
+use Rattle.reading.specs.Bytes.{be4, padded}
 use Rattle.reading.specs.Script.{number, Found, nothing, word, opaque, Script, give}
-use Rattle.reading.specs.Cursor.{Place, Out, got, stop, read-item, times, follow}
+use Rattle.reading.specs.Cursor.{Place, Out, got, stop, max-opaque, read-item, times, follow}
 use Rattle.reading.specs.Layout.{words, last-number, opened, flows, flow, pdu}
 use Rattle.reading.specs.Answer.{size}
 use Rattle.reading.proofs.Items.{never, word-seen}
 use Rattle.reading.proofs.Counts.{counted, counted-stop, counted-none, turn-got, turn-stop, turns-done, resumed, framing, framing-cut, framing-short, framing-got, frame-at, frame-stop, frame-held, pdu-cut, pdu-held, fields-stop, each-held}
+use Rattle.reading.proofs.Opaques.{opaque-got}
 use Rattle.reading.proofs.Framed.{Framed-at, framing-lies}
 use Rattle.reading.proofs.Bounds.{Owes, owes}
 use Rattle.reading.proofs.Room.{Thrifty, thrifty-flow, thrifty-pdu}
@@ -27,7 +29,8 @@ use Rattle.xdr.specs.declared.Part.{Part}
 use Rattle.xdr.specs.declared.Part.the-variants as a-part
 use Rattle.xdr.specs.declared.Word.{Word}
 use Rattle.xdr.specs.declared.Word.the-variants as a-word
-use Rattle.xdr.specs.Shown.{place, Inside, Reads, Answers, passed-of, refused, refusal, span, word-out, part-out, passed-out}
+use Rattle.xdr.specs.Shown.{place, Inside, Reads, Answers, passed-of, refused, behind, refusal, span, word-out, part-out, passed-out}
+use Rattle.xdr.proofs.Laws.{word-got}
 use Rattle.xdr.proofs.Ends.{reads-on}
 use Rattle.xdr.proofs.Rows.{shown-row, shown-halt, reads-inside, row-forward}
 use Rattle.flows.specs.declared.frames.Frame.{Frame}
@@ -115,6 +118,20 @@ module _ (s : List ℕ) (c : Cursor) {w : Word} (e : word-out w ≡ read-item wo
 
     pub frame-got : {x : Span} {u : Cursor} → r ≡ a-part.Got x u → got (framing f (span x)) (place u) ≡ frame-at s (place c)
     frame-got g = framing-got s (place c) (rw h at e) (rw g at i)
+
+-- the same by one look at its two words
+pub frame-there : (s : List ℕ) (c : Cursor) {n p f : ℕ} → n ≡ be4 s (c .at + 4) → p ≡ padded n → f ≡ be4 s (c .at) → Inside s c → 8 ≤ length s - c .at → p ≤ length s - c .at - 8 → n ≤ max-opaque
+    → got (framing f (record { start = c .at + 8; count = n })) (place (record { at = c .at + 8 + p; steps = c .steps + 2 })) ≡ frame-at s (place c)
+frame-there s c {n} {p} {f} v z u g h k l =
+    let d : Cursor = behind 4 c in
+    let j : Inside s d = record { inside = omega (arith, g .inside); counted = omega (arith, g .counted) } in
+    let e : got (number f) (place d) ≡ read-item word s (place c) = word-got s c u refl g (omega arith) in
+    let w : got (number n) (place (behind 4 d)) ≡ read-item word s (place d) = word-got s d v refl j (omega arith) in
+    let t : padded n ≤ length s - (c .at + 4 + 4) = omega arith in
+    let i = opaque-got s (place d) w l t in
+    let a : c .at + 4 + 4 ≡ c .at + 8 = omega arith in
+    let b : c .steps + 1 + 1 ≡ c .steps + 2 = omega arith in
+    rw (z, ← a, ← b) (framing-got s (place c) e i)
 
 -- ---- a record, by its frame
 module _ (s : List ℕ) (c : Cursor) {r : Frame} (e : frame-out r ≡ frame-at s (place c)) {f : ℕ} {x : Span} {d : Cursor} (h : r ≡ frame.Got f x d) where

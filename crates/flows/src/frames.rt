@@ -8,6 +8,7 @@ use xdr::Outcome;
 use xdr::Part;
 use xdr::Span;
 use xdr::Word;
+use xdr::load;
 
 // The format, where the payload lies, and the cursor behind the pad.
 pub enum Frame {
@@ -21,8 +22,45 @@ pub enum Scanned {
     Stop(Outcome),
 }
 
+// The longest opaque, as `read_opaque` has it.
+const MAX_OPAQUE_SIZE: u32 = 104857600;
+
 impl Frame {
+    // By one look at its two words and its end. A frame with something amiss is gone through item by item.
     pub fn parse(c: Cursor, s: &[u8]) -> Frame
+        requires { ⌜ Inside (now s) c ⌝ }
+        ensures { λ r. ⌜ frame-out r ≡ frame-at (now (s .entry)) (place c) ⌝ }
+    {
+        let at = c.at;
+        let steps = c.steps;
+        let room = s.len() - at;
+        if room < 8 {
+            return Frame::by_items(c, s);
+        }
+        let length = load::be32(s, at + 4);
+        let count = length as usize;
+        let padded = load::padded(count);
+        if room - 8 < padded {
+            return Frame::by_items(c, s);
+        }
+        if MAX_OPAQUE_SIZE < length {
+            return Frame::by_items(c, s);
+        }
+        let format = load::be32(s, at);
+        Frame::Got(
+            format,
+            Span {
+                start: at + 8,
+                count: count,
+            },
+            Cursor {
+                at: at + 8 + padded,
+                steps: steps + 2,
+            },
+        )
+    }
+
+    fn by_items(c: Cursor, s: &[u8]) -> Frame
         requires { ⌜ Inside (now s) c ⌝ }
         ensures { λ r. ⌜ frame-out r ≡ frame-at (now (s .entry)) (place c) ⌝ }
     {
