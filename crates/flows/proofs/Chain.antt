@@ -40,7 +40,7 @@ use Rattle.flows.specs.Chain.{Within, inside, over, Then, goes, halts, s
 joined : {A : Type 0} {l k : List A} (n : ℕ) → take n k ≡ l → l ++ drop n k ≡ k
 joined {A} {l} {k} n e = ap (λ (h : List A). h ++ drop n k) (sym e) ∙ take-append-drop n k
 
-both : {s : List ℕ} {l m : List Field} {p q r : Passed} {vs ws : List Value} → Then l s p q vs → Then m s q r ws → Then (l ++ m) s p r (vs ++ ws)
+pub both : {s : List ℕ} {l m : List Field} {p q r : Passed} {vs ws : List Value} → Then l s p q vs → Then m s q r ws → Then (l ++ m) s p r (vs ++ ws)
 both {s} {l} {m} (goes {d} a i) (goes b j) = goes (rows-give l m s (place d) a b) j
 both {s} {l} {m} (goes {d} a i) (halts b) = halts (rows-halt l m s (place d) a b)
 both {s} {l} {m} (halts {d} a) stays = halts (row-halts l m s (place d) a)
@@ -133,7 +133,7 @@ module _ {l : List Field} {s : List ℕ} {p : Passed} where
 
 -- an item that is a number
 module _ (i : Item) (s : List ℕ) (c : Cursor) where
-  item-goes : {v : Value} {d : Cursor} → Inside s c → got v (place d) ≡ read-item i s (place c) → Then (plain i ∷ []) s (passed.Got c) (passed.Got d) (v ∷ [])
+  pub item-goes : {v : Value} {d : Cursor} → Inside s c → got v (place d) ≡ read-item i s (place c) → Then (plain i ∷ []) s (passed.Got c) (passed.Got d) (v ∷ [])
   unfolding field-out
   item-goes j e = goes (sole-gives (plain i) s (place c) (sym e)) (after-item s c j i e)
 

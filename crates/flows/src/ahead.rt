@@ -5,15 +5,49 @@ ghost use Rattle.flows.specs.Scanned.{Scan};
 ghost use Rattle.flows.specs.Passing.{Passes, Passes-record, Ahead-of};
 ghost use Rattle.xdr.specs.Shown.{Inside};
 use crate::frames::Frame;
+use crate::frames::MAX_OPAQUE_SIZE;
 use crate::pass::Row;
 use xdr::Cursor;
 use xdr::Passed;
+use xdr::load;
 
 // Where it has come to: the records that are left, and the descriptors so far.
 pub struct Ahead {
     pub cursor: Cursor,
     pub rest: u32,
     pub count: usize,
+}
+
+// Format 1, by one look at its words and its end.
+fn sampled_header(c: Cursor, s: &[u8]) -> Passed
+    requires { ⌜ Inside (now s) c ⌝ }
+    ensures { λ r. ⌜ Passes (now (s .entry)) c 1 r ⌝ }
+{
+    let at = c.at;
+    let steps = c.steps;
+    let room = s.len() - at;
+    if room < 16 {
+        return Passed::Stop(c.refusal(0));
+    }
+    let protocol = load::be32(s, at);
+    if protocol < 1 {
+        return Passed::Stop(c.refusal(0));
+    }
+    if 17 < protocol {
+        return Passed::Stop(c.refusal(0));
+    }
+    let length = load::be32(s, at + 12);
+    let padded = load::padded(length as usize);
+    if room - 16 < padded {
+        return Passed::Stop(c.refusal(0));
+    }
+    if MAX_OPAQUE_SIZE < length {
+        return Passed::Stop(c.refusal(0));
+    }
+    Passed::Got(Cursor {
+        at: at + 16 + padded,
+        steps: steps + 4,
+    })
 }
 
 // The payload of a record of this format. A refusal says nothing here.
@@ -25,7 +59,7 @@ fn payload(c: Cursor, s: &[u8], format: u32) -> Passed
         passed: Passed::Got(c),
     };
     match format {
-        1 => row.protocol(s).words(s, 2).opaque(s).passed,
+        1 => sampled_header(c, s),
         3 => row.words(s, 8).passed,
         1001 => row.words(s, 4).passed,
         1011 => row.words(s, 1).passed,

@@ -23,7 +23,7 @@ pub enum Scanned {
 }
 
 // The longest opaque, as `read_opaque` has it.
-const MAX_OPAQUE_SIZE: u32 = 104857600;
+pub const MAX_OPAQUE_SIZE: u32 = 104857600;
 
 impl Frame {
     // By one look at its two words and its end. A frame with something amiss is gone through item by item.

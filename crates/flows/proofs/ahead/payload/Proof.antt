@@ -1,7 +1,7 @@
 use Rattle.reading.specs.Layout.{opened, flows}
 use Rattle.reading.specs.Answer.{layout-of}
 use Rattle.flows.proofs.Chain.{passing}
-use Rattle.flows.proofs.Early.{passes-arm, passes-none}
+use Rattle.flows.proofs.Early.{passes-arm, passes-as, passes-none}
 use Rattle.flows.proofs.ahead.payload.Statement.{statement}
 use Rattle.flows.proofs.ahead.payload.Tie as tie
 
@@ -10,16 +10,14 @@ unfolding layout-of opened flows
 payload-spec =
     tie.close
     (tie.spec
-    (λ c κs. search passing)  -- protocol-requires ahead.rt:28:14
-    (λ c κs. search passing)  -- words-requires ahead.rt:28:14
-    (λ c κs. search passing)  -- opaque-requires ahead.rt:28:14
-    (λ c κs. search passing)  -- words-requires-2 ahead.rt:29:14
-    (λ c κs. search passing)  -- words-requires-3 ahead.rt:30:17
-    (λ c κs. search passing)  -- words-requires-4 ahead.rt:31:17
-    (λ c κs. search passing)  -- refusal-requires ahead.rt:32:27
-    (λ c. search (passes-arm 1, passing))  -- returns ahead.rt:20:1
-    (λ c. search (passes-arm 3, passing))  -- returns-2 ahead.rt:20:1
-    (λ c. search (passes-arm 1001, passing))  -- returns-3 ahead.rt:20:1
-    (λ c. search (passes-arm 1011, passing))  -- returns-4 ahead.rt:20:1
-    (λ c. search passes-none)  -- returns-5 ahead.rt:20:1
+    (λ c κs. search passing)  -- sampled-header-requires ahead.rt:62:14
+    (λ c κs. search passing)  -- words-requires ahead.rt:63:14
+    (λ c κs. search passing)  -- words-requires-2 ahead.rt:64:17
+    (λ c κs. search passing)  -- words-requires-3 ahead.rt:65:17
+    (λ c κs. search passing)  -- refusal-requires ahead.rt:66:27
+    (λ c. search passes-as)  -- returns ahead.rt:54:1
+    (λ c. search (passes-arm 3, passing))  -- returns-2 ahead.rt:54:1
+    (λ c. search (passes-arm 1001, passing))  -- returns-3 ahead.rt:54:1
+    (λ c. search (passes-arm 1011, passing))  -- returns-4 ahead.rt:54:1
+    (λ c. search passes-none)  -- returns-5 ahead.rt:54:1
     )
