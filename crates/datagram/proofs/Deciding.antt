@@ -2,41 +2,40 @@
 use Prim.Native.Nat.{ℕ, _+_, _*_, _/_, _≤_, _<_}
 use mathlib.Core.Bool.{Bool, true, false, cond}
 use mathlib.Core.Path.{_≡_, refl, sym, ap, _∙_, subst}
-use mathlib.Core.List.{List, _++_}
+use mathlib.Core.List.{List, [], _∷_, _++_}
 use native.Mathlib.Omega.{arith}
 use borrow.Author.Needs.{needs}
 use borrow.Author.Tests.{leb-true, le-leb, lt-leb}
 use lib.Dec.{leb}
-use lib.ListN.{length, drop}
-use Rattle.reading.specs.Script.{Value, Found}
+use lib.ListN.{length, drop, getD}
+use Rattle.reading.specs.Script.{Value, number, Found}
 use Rattle.reading.specs.Cursor.{Place, Out, got, stop, times, follow}
-use Rattle.reading.specs.Layout.{last-number, sample, header, datagram}
+use Rattle.reading.specs.Layout.{version, addr, words, last-number, sample, header, datagram}
 use Rattle.reading.specs.Answer as answer
 use Rattle.reading.specs.Answer.{limited, size, rows, room, from, nobody, header-of, no-header, refused, stored, one, run}
 use Rattle.reading.proofs.Items.{never, split}
 use Rattle.reading.proofs.Room.{whole, thrifty-datagram, datagram-on}
 use Rattle.reading.proofs.Runs.{run-from, thrifty-run}
 use Rattle.reading.proofs.Counts.{counted}
+use Rattle.reading.proofs.Words.{numbers}
 use Rattle.reading.proofs.Stored.{write, write-length, write-all, rows-length}
 use Rattle.reading.proofs.Places.{Accepted, accepted, ranges-of, end-of}
 use Rattle.xdr.specs.declared.Cursor.{Cursor}
 use Rattle.xdr.specs.declared.Outcome.{Outcome}
 use Rattle.xdr.specs.declared.Passed.{Passed}
 use Rattle.xdr.specs.declared.Passed.the-variants as passed
-use Rattle.xdr.specs.Shown.{place, Reads, passed-of, refusal}
-use Rattle.xdr.proofs.Ends.{reads-on}
-use Rattle.xdr.proofs.Rows.{shown-row, shown-halt}
+use Rattle.xdr.specs.declared.Address.{Address}
+use Rattle.xdr.specs.Shown.{place, Inside, an-address, refusal}
 use Rattle.flows.specs.declared.frames.Scanned.{Scanned}
 use Rattle.flows.specs.declared.frames.Scanned.the-variants as scanned
-use Rattle.flows.specs.declared.put.Written.{Written}
 use Rattle.flows.specs.Scanned.{Scan, scanned-out}
-use Rattle.flows.specs.Written.{Ready, written, placed}
-use Rattle.flows.proofs.Placing.{store-is, put-kept}
+use Rattle.flows.specs.Chain.{Then, goes, halts, loaded}
+use Rattle.flows.specs.Written.{Ready, placed}
+use Rattle.flows.proofs.Chain.{both}
+use Rattle.flows.proofs.Placing.{a-put, store-is, put-kept}
 use Rattle.datagram.specs.declared.decode.Answer.{Answer}
 use Rattle.datagram.specs.declared.decode.Decoded.{Decoded}
-use Rattle.datagram.specs.declared.header.Header.{Header}
-use Rattle.datagram.specs.declared.one.Judged.{Judged}
-use Rattle.datagram.specs.Shown.{header-fields, Is-judged, root, decoded, Refuses, ran}
+use Rattle.datagram.specs.Shown.{root, decoded, Refuses, Is-read, values-of, Accepts, ran}
 use Rattle.datagram.proofs.Judging.{start-of, begun, not-begun}
 
 -- the answer to a reading o
@@ -126,40 +125,64 @@ module _ (head : List Value → answer.Header) (o : Out Found) (s w : List ℕ) 
 
 -- ---- one datagram
 
-pub at-start : (s : List ℕ) → Scan s (start-of 0) 0
-at-start s = record { inside = omega arith; counted = omega arith; few = omega arith }
+pub at-start : (s : List ℕ) → length s ≤ 16777216 → Scan s (start-of 0) 0
+at-start s h = record { inside = omega arith; counted = omega arith; few = omega arith; short = h }
 
-head-values : (s : List ℕ) (a : Found) (e : Cursor) (h : Header) (p : Passed) → Reads header s (start-of 0) p (header-fields h) → follow datagram s (from 0) ≡ got a (place e) → a .values ≡ header-fields h
-head-values s a e h (passed.Stop x) f u = never (sym (not-begun s (start-of 0) x (shown-halt s (start-of 0) header f refl .stops)) ∙ u)
-head-values s a e h (passed.Got d) f u =
-    let t = split (times (last-number (header-fields h)) (follow (sample 8)) s (place d)) _ (sym (begun s (start-of 0) d (shown-row s (start-of 0) header f refl .gives)) ∙ u) in
-    let g : got (whole 0 (header-fields h) (t .value) (t .place)) (t .place) ≡ got a (place e) = t .second in
-    let x : whole 0 (header-fields h) (t .value) (t .place) ≡ a = cc in
-    ap (λ (r : Found). r .values) (sym x)
+pub inside-start : (s : List ℕ) → Inside s (start-of 0)
+inside-start s = record { inside = omega arith; counted = omega arith }
 
-abbrev head-is : Header → answer.Header
-head-is h = record {
-  address-type = h .«agent_address» .kind;
-  address = h .«agent_address» .bytes;
-  sub-agent = h .«sub_agent_id»;
-  sequence = h .«sequence_number»;
-  uptime = h .uptime;
-  sample-count = h .«num_samples»;
-}
+-- its header, once it is known to be accepted
+module _ (s : List ℕ) {e : Cursor} {k : ℕ} (q : Is-read s e k) where
+  known : Whole (follow datagram s (from 0)) e k
+  known = judged-whole (follow datagram s (from 0)) e k (q .is)
+
+  head-values : {d : Cursor} {vs : List Value} → Then header s (passed.Got (start-of 0)) (passed.Got d) vs → values-of (follow datagram s (from 0)) ≡ vs
+  unfolding values-of
+  head-values {d} {vs} (goes f i) =
+      let a = known in
+      let t = split (times (last-number vs) (follow (sample 8)) s (place d)) _ (sym (begun s (start-of 0) d f) ∙ a .is) in
+      let g : got (whole 0 vs (t .value) (t .place)) (t .place) ≡ got (a .found) (place e) = t .second in
+      let x : whole 0 vs (t .value) (t .place) ≡ a .found = cc in
+      ap values-of (a .is) ∙ ap (λ (r : Found). r .values) (sym x)
+
+  no-halt : {x : Outcome} {vs : List Value} {A : Type 0} → Then header s (passed.Got (start-of 0)) (passed.Stop x) vs → A
+  no-halt {x} (halts f) = never (sym (not-begun s (start-of 0) x f) ∙ known .is)
+
+  -- its three parts
+  module _ {p₀ p₁ p₂ : Passed} {v : ℕ} (at : ℕ) {a : Address} (t : Then (version ∷ []) s (passed.Got (start-of 0)) p₀ (number v ∷ [])) (u : Then (addr ∷ []) s p₀ p₁ (an-address a ∷ []))
+      (w : Then (words 4) s p₁ p₂ (numbers 4 s at)) where
+    pub never-refused : {x : Outcome} {r : Decoded} → p₂ ≡ passed.Stop x → Accepts s r e k
+    never-refused h = no-halt (rw h at (both (both t u) w))
+
+    pub header-known : {d : Cursor} (ws : List ℕ) → p₂ ≡ passed.Got d → loaded 4 ws ≡ numbers 4 s at → Accepts s (record {
+      answer = record { code = 0; at = e .at; steps = e .steps; needed = k };
+      «agent_address» = a;
+      «sub_agent_id» = getD ws 0 0;
+      «sequence_number» = getD ws 1 0;
+      uptime = getD ws 2 0;
+      «num_samples» = getD ws 3 0;
+    }) e k
+    unfolding header-of
+    header-known {d} ws h l =
+        let f : values-of (follow datagram s (from 0)) ≡ number v ∷ an-address a ∷ loaded 4 ws = head-values (rw h at (both (both t u) w)) ∙ ap (λ (ns : List Value). number v ∷ an-address a ∷ ns) (sym l) in
+        record { leaves = λ m. ap (λ (x : answer.Header). record { code = 0; at = e .at; steps = e .steps; needed = k; head = x; store = m }) (sym (ap header-of f)) }
 
 module _ (s w : List ℕ) where
   pub too-long : {d : Decoded} → Refuses d 1 0 0 0 → 16777216 < length s → decoded d w ≡ one s w
   unfolding one
   too-long e h = e .leaves w ∙ beyond header-of (follow datagram s (from 0)) s w h
 
-  module _ (short : length s ≤ 16777216) {j : Judged} (i : Is-judged s (start-of 0) 0 j) where
-    pub stays : {x : Outcome} {d : Decoded} → j .scanned ≡ scanned.Stop x → Refuses d (x .code) (x .at) (x .steps) 0 → decoded d w ≡ one s w
+  module _ (short : length s ≤ 16777216) {j : Scanned} (i : scanned-out j ≡ counted 0 (follow datagram s (from 0))) where
+    pub stays : {x : Outcome} {d : Decoded} → j ≡ scanned.Stop x → Refuses d (x .code) (x .at) (x .steps) 0 → decoded d w ≡ one s w
     unfolding one
-    stays {x} q e = e .leaves w ∙ stops header-of (follow datagram s (from 0)) s w short x (rw q at (i .outcome))
+    stays {x} q e = e .leaves w ∙ stops header-of (follow datagram s (from 0)) s w short x (rw q at i)
 
-    module _ {e : Cursor} {k : ℕ} (q : j .scanned ≡ scanned.Got e k) where
+    module _ {e : Cursor} {k : ℕ} (q : j ≡ scanned.Got e k) where
+      pub is-read : Is-read s e k
+      is-read = record { is = rw q at i }
+
       there : Whole (follow datagram s (from 0)) e k
-      there = judged-whole (follow datagram s (from 0)) e k (rw q at (i .outcome))
+      there = known s is-read
 
       pub no-room : {d : Decoded} → length w / 6 < k → Refuses d 9 0 (e .steps) k → decoded d w ≡ one s w
       unfolding one
@@ -173,13 +196,12 @@ module _ (s w : List ℕ) where
           let x = t .count in
           fills header-of (follow datagram s (from 0)) s w short e k t h (omega (arith, y, f .1))
 
-      pub all-stored : {v : Written} {l′ : List ℕ} → k ≤ length w / 6 → written v l′ ≡ placed (root 0) (follow datagram s (from 0)) w
-          → record { code = 0; at = e .at; steps = e .steps; needed = k; head = head-is (j .header); store = l′ } ≡ one s w
-      unfolding one header-of
-      all-stored {v} {l′} h f =
+      pub all-stored : {a b : ℕ} {l′ : List ℕ} {d : Decoded} → k ≤ length w / 6 → a-put a b l′ ≡ placed (root 0) (follow datagram s (from 0)) w → Accepts s d e k → decoded d l′ ≡ one s w
+      unfolding one values-of
+      all-stored {l′ = l′} h f g =
           let t = there in
-          let d : header-of (header-fields (j .header)) ≡ header-of (t .found .values) = ap header-of (sym (head-values s (t .found) e (j .header) (passed-of (j .header .outcome)) (reads-on (i .head) refl refl) (t .is))) in
-          stores header-of (follow datagram s (from 0)) s w short e k t h (store-is (root 0) _ w f) d
+          let d : header-of (values-of (follow datagram s (from 0))) ≡ header-of (t .found .values) = ap (λ (u : Out Found). header-of (values-of u)) (t .is) in
+          g .leaves l′ ∙ stores header-of (follow datagram s (from 0)) s w short e k t h (store-is (root 0) _ w f) d
 
 pub decoded-room : {l : List ℕ} (s w : List ℕ) (d : Decoded) → decoded d l ≡ one s w → length l ≡ length w → d .answer .code ≡ 0 → 6 * d .answer .needed ≤ length l
 unfolding one
@@ -189,7 +211,7 @@ decoded-room {l} s w d e k c =
     let z = has-room header-of (follow datagram s (from 0)) s w (sym x ∙ c) in
     rw y (omega (arith, z))
 
-pub ruleset deciding = (at-start, too-long, stays, no-room, all-ready, all-stored, put-kept, needs)
+pub ruleset deciding = (at-start, too-long, stays, is-read, no-room, all-ready, all-stored, put-kept, needs)
 
 -- ---- a run
 module _ (s w : List ℕ) where

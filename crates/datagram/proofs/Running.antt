@@ -22,23 +22,23 @@ use Rattle.reading.proofs.Forward.{forward}
 use Rattle.xdr.specs.declared.Cursor.{Cursor}
 use Rattle.xdr.specs.declared.Outcome.{Outcome}
 use Rattle.xdr.specs.Shown.{place, refusal}
+use Rattle.flows.specs.declared.frames.Scanned.{Scanned}
 use Rattle.flows.specs.declared.frames.Scanned.the-variants as scanned
 use Rattle.flows.specs.declared.put.Written.{Written}
-use Rattle.flows.specs.Scanned.{Scan}
+use Rattle.flows.specs.Scanned.{Scan, scanned-out}
 use Rattle.flows.specs.Written.{Ready, Put, written, placed}
 use Rattle.flows.proofs.Scan.{scan-on}
 use Rattle.flows.proofs.Placing.{a-put, two-placed, at-is, next-is, store-is, put-kept}
-use Rattle.datagram.specs.declared.one.Judged.{Judged}
-use Rattle.datagram.specs.Shown.{Is-judged, root, pen-at}
+use Rattle.datagram.specs.Shown.{root, pen-at}
 
 -- ---- the first pass
-module _ (s : List ℕ) (c : Cursor) (k : ℕ) {j : Judged} (i : Is-judged s c k j) where
-  module _ {d : Cursor} {m : ℕ} (w : j .scanned ≡ scanned.Got d m) where
+module _ (s : List ℕ) (c : Cursor) (k : ℕ) {j : Scanned} (i : scanned-out j ≡ counted k (follow datagram s (place c))) where
+  module _ {d : Cursor} {m : ℕ} (w : j ≡ scanned.Got d m) where
     outcome : got m (place d) ≡ counted k (follow datagram s (place c))
-    outcome = rw w at (i .outcome)
+    outcome = rw w at i
 
     pub judge-on : Scan s c k → Scan s d m
-    judge-on g = scan-on datagram s c k (i .outcome) w g (record { is = thrifty-datagram 8 })
+    judge-on g = scan-on datagram s c k i w g (record { is = thrifty-datagram 8 })
 
     pub judge-less : (t : ℕ) → Scan s c k → c .at < length s → length s - c .at ≡ t → length s - d .at < t
     unfolding counted
@@ -55,9 +55,9 @@ module _ (s : List ℕ) (c : Cursor) (k : ℕ) {j : Judged} (i : Is-judged s c k
     pub judge-turn : {t : Out ℕ} → counted k (run-from s (place c)) ≡ t → c .at < length s → counted m (run-from s (place d)) ≡ t
     judge-turn e h = sym (run-got s (place c) k h (sym outcome)) ∙ e
 
-  module _ {x : Outcome} (w : j .scanned ≡ scanned.Stop x) {t : Out ℕ} (e : counted k (run-from s (place c)) ≡ t) (h : c .at < length s) where
+  module _ {x : Outcome} (w : j ≡ scanned.Stop x) {t : Out ℕ} (e : counted k (run-from s (place c)) ≡ t) (h : c .at < length s) where
     refused : refusal x ≡ counted k (follow datagram s (place c))
-    refused = rw w at (i .outcome)
+    refused = rw w at i
 
     pub judge-ends : x .code ≡ 2 → got k (record { at = c .at; steps = x .steps }) ≡ t
     judge-ends z = sym (run-ends s (place c) k h (sym refused) z) ∙ e

@@ -2,35 +2,35 @@
 use Prim.Native.Nat.{ℕ}
 use mathlib.Core.Path.{_≡_}
 use mathlib.Core.List.{List, [], _∷_}
-use Rattle.reading.specs.Script.{Value, number}
-use Rattle.reading.specs.Cursor.{follow}
-use Rattle.reading.specs.Layout.{header, datagram}
+use Rattle.reading.specs.Script.{Value, number, Found}
+use Rattle.reading.specs.Cursor.{Out, got, stop, follow}
+use Rattle.reading.specs.Layout.{words, version, addr, datagram}
 use Rattle.reading.specs.Answer as answer
-use Rattle.reading.specs.Answer.{nobody, no-header, refused}
+use Rattle.reading.specs.Answer.{from, nobody, header-of, no-header, refused}
 use Rattle.reading.proofs.Counts.{counted}
+use Rattle.reading.proofs.Words.{numbers}
 use Rattle.xdr.specs.declared.Cursor.{Cursor}
+use Rattle.xdr.specs.declared.Passed.{Passed}
 use Rattle.xdr.specs.declared.Passed.the-variants as passed
-use Rattle.xdr.specs.Shown.{place, Answers, an-address}
+use Rattle.xdr.specs.Shown.{place, an-address}
+use Rattle.flows.specs.declared.next.Run.{Run}
 use Rattle.flows.specs.declared.put.Pen.{Pen}
-use Rattle.flows.specs.Scanned.{scanned-out}
+use Rattle.flows.specs.Chain.{Then, Ends, There}
 use Rattle.datagram.specs.declared.decode.Answer.{Answer}
 use Rattle.datagram.specs.declared.decode.Decoded.{Decoded}
 use Rattle.datagram.specs.declared.header.Header.{Header}
-use Rattle.datagram.specs.declared.one.Judged.{Judged}
 
 abbrev pub header-fields : Header → List Value
 header-fields r =
     number (r .version) ∷ an-address (r .«agent_address») ∷ number (r .«sub_agent_id») ∷ number (r .«sequence_number») ∷ number (r .uptime)
     ∷ number (r .«num_samples») ∷ []
 
--- a datagram that was judged: its outcome with the descriptors counted on top of k, and its header
-pub record Is-judged (s : List ℕ) (c : Cursor) (k : ℕ) (r : Judged) : Type 0 where
-  pub outcome : scanned-out (r .scanned) ≡ counted k (follow datagram s (place c))
-  pub head : Answers header s (passed.Got c) (r .header .outcome) (header-fields (r .header))
-
--- the header of the datagram at a place
-pub record Has-header (s : List ℕ) (at : ℕ) (h : Header) : Type 0 where
-  pub read : Answers header s (passed.Got (record { at = at; steps = 0 })) (h .outcome) (header-fields h)
+-- a header that is passed, by where its four words begin
+pub record Heads (s : List ℕ) (c : Cursor) (r : Run) : Type 0 where
+  pub behind : Passed
+  pub first : Ends (version ∷ addr ∷ []) s (passed.Got c) behind
+  pub rest : Then (words 4) s behind (r .passed) (numbers 4 s (r .at))
+  pub there : There 4 s (r .passed) (r .at)
 
 -- where a datagram's own descriptor goes: it has no parent
 abbrev pub root : ℕ → Pen
@@ -61,6 +61,18 @@ decoded r w = record {
 -- a refusal: the header is all zero, and any store stays as it was
 pub record Refuses (r : Decoded) (code at steps needed : ℕ) : Type 0 where
   pub leaves : (w : List ℕ) → decoded r w ≡ refused code at steps needed w
+
+-- a datagram that was read up to e, with k descriptors
+pub record Is-read (s : List ℕ) (e : Cursor) (k : ℕ) : Type 0 where
+  pub is : got k (place e) ≡ counted 0 (follow datagram s (from 0))
+
+unfoldable pub values-of : Out Found → List Value
+values-of (got a q) = a .values
+values-of (stop c a n) = []
+
+-- it is accepted, with any store
+pub record Accepts (s : List ℕ) (r : Decoded) (e : Cursor) (k : ℕ) : Type 0 where
+  pub leaves : (w : List ℕ) → decoded r w ≡ record { code = 0; at = e .at; steps = e .steps; needed = k; head = header-of (values-of (follow datagram s (from 0))); store = w }
 
 -- the answer to a run, which has no header, with the store that it leaves
 abbrev pub ran : Answer → List ℕ → answer.Answer

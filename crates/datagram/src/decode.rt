@@ -1,13 +1,15 @@
 // One datagram, for any input and any store.
 ghost use mathlib.Core.Path.{_≡_};
 ghost use Rattle.reading.specs.Answer.{one};
-ghost use Rattle.datagram.specs.Shown.{decoded, Refuses};
-use crate::header::Header;
+ghost use Rattle.datagram.specs.Shown.{decoded, Refuses, Is-read, Accepts};
+use crate::header::version_at;
 use crate::one::judge;
-use crate::one::put_behind;
+use crate::one::put_datagram;
 use flows::frames::Scanned;
+use flows::next;
 use xdr::Address;
 use xdr::Cursor;
+use xdr::Passed;
 
 // What a call answers: document 01's code, the position, the steps, and the descriptors needed.
 #[repr(C)]
@@ -50,6 +52,38 @@ impl Decoded {
             num_samples: 0,
         }
     }
+    // All was read up to e, with k descriptors. The header is read once more: the first pass keeps nothing of it.
+    fn accepted(s: &[u8], e: Cursor, k: usize) -> Decoded
+        requires { ⌜ Is-read (now s) e k ⌝ }
+        ensures { λ r. ⌜ Accepts (now (s .entry)) r e k ⌝ }
+    {
+        let first = version_at(Cursor { at: 0, steps: 0 }, s);
+        let passed = first.passed;
+        let agent = next::address(passed, s);
+        let passed = agent.passed;
+        let agent_address = agent.address;
+        let row = next::words(passed, s, 4);
+        let passed = row.passed;
+        match passed {
+            Passed::Stop(r) => Decoded::refused(r.code, r.at, r.steps, 0),
+            Passed::Got(_) => {
+                let words = next::load_words(s, row.at, 4);
+                Decoded {
+                    answer: Answer {
+                        code: 0,
+                        at: e.at,
+                        steps: e.steps,
+                        needed: k,
+                    },
+                    agent_address: agent_address,
+                    sub_agent_id: words[0],
+                    sequence_number: words[1],
+                    uptime: words[2],
+                    num_samples: words[3],
+                }
+            }
+        }
+    }
 }
 
 // The store is written where code 0 is answered, and only then: the descriptors from its first word on.
@@ -59,30 +93,14 @@ pub fn decode(s: &[u8], store: &mut [u32]) -> Decoded
     if 16777216 < s.len() {
         return Decoded::refused(1, 0, 0, 0);
     }
-    let judged = judge(s, Cursor { at: 0, steps: 0 }, 0);
-    let scanned = judged.scanned;
-    let header = judged.header;
-    match scanned {
+    match judge(s, Cursor { at: 0, steps: 0 }, 0) {
         Scanned::Stop(r) => Decoded::refused(r.code, r.at, r.steps, 0),
         Scanned::Got(e, k) => {
             if store.len() / 6 < k {
                 return Decoded::refused(9, 0, e.steps, k);
             }
-            let agent_address = header.agent_address;
-            put_behind(s, 0, header, store, 0);
-            Decoded {
-                answer: Answer {
-                    code: 0,
-                    at: e.at,
-                    steps: e.steps,
-                    needed: k,
-                },
-                agent_address: agent_address,
-                sub_agent_id: header.sub_agent_id,
-                sequence_number: header.sequence_number,
-                uptime: header.uptime,
-                num_samples: header.num_samples,
-            }
+            put_datagram(s, 0, store, 0);
+            Decoded::accepted(s, e, k)
         }
     }
 }

@@ -7,9 +7,11 @@ ghost use Rattle.reading.specs.Values.{zeros};
 ghost use Rattle.reading.specs.Answer.{layout-of};
 ghost use Rattle.xdr.specs.Shown.{Inside, Answers, refused};
 ghost use Rattle.flows.specs.Chain.{Within, Then};
-ghost use Rattle.datagram.specs.Shown.{header-fields};
+ghost use Rattle.datagram.specs.Shown.{header-fields, Heads};
 use flows::next;
 use flows::next::Number;
+use flows::next::Run;
+use flows::pass::Row;
 use xdr::Address;
 use xdr::Cursor;
 use xdr::Outcome;
@@ -42,7 +44,7 @@ fn version(p: Passed, s: &[u8]) -> Number
     }
 }
 
-fn version_at(c: Cursor, s: &[u8]) -> Number
+pub fn version_at(c: Cursor, s: &[u8]) -> Number
     requires { ⌜ Inside (now s) c ⌝ }
     ensures { λ r. ⌜ Then (version ∷ []) (now (s .entry)) (Passed.Got c) (r .passed) (number (r .value) ∷ []) ⌝ }
 {
@@ -64,6 +66,18 @@ fn version_at(c: Cursor, s: &[u8]) -> Number
             }
         }
     }
+}
+
+// The header, passed; and where its four words begin.
+pub fn row(c: Cursor, s: &[u8]) -> Run
+    requires { ⌜ Inside (now s) c ⌝ }
+    ensures { λ r. ⌜ Heads (now (s .entry)) c r ⌝ }
+{
+    let first = version_at(c, s);
+    let passed = first.passed;
+    let agent = Row { passed: passed }.address(s);
+    let passed = agent.passed;
+    next::words(passed, s, 4)
 }
 
 impl Header {

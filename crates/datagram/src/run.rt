@@ -21,14 +21,13 @@ use xdr::Cursor;
 
 // The first pass. Code 2 ends the run where the datagram that it stops began.
 fn judge_run(s: &[u8]) -> Scanned
+    requires { ⌜ length (now s) ≤ 16777216 ⌝ }
     ensures { λ r. ⌜ scanned-out r ≡ counted 0 (run-from (now (s .entry)) (from 0)) ⌝ }
 {
     let mut cur = Cursor { at: 0, steps: 0 };
     let mut found = 0;
     while cur.at < s.len() {
-        let judged = judge(s, cur, found);
-        let scanned = judged.scanned;
-        match scanned {
+        match judge(s, cur, found) {
             Scanned::Stop(r) => {
                 if r.code == 2 {
                     return Scanned::Got(

@@ -2,7 +2,7 @@
 use mathlib.Core.Path.{_≡_, refl, ap, _∙_, sym}
 use mathlib.Core.Bool.{Bool, true, false, cond}
 use mathlib.Core.List.{List, [], _∷_, _++_, append-nil}
-use Prim.Native.Nat.{ℕ, zero, suc, _+_, _*_, _≤_, _<_}
+use Prim.Native.Nat.{ℕ, zero, suc, _+_, _-_, _*_, _≤_, _<_}
 use native.Mathlib.Omega.{arith}
 use borrow.Author.Needs.{needs}
 use borrow.Author.Tests.{leb-true, le-leb, lt-leb}
@@ -10,6 +10,7 @@ use lib.Dec.{leb}
 use lib.ListN.{length, take, drop, getD, take-append-drop}
 use lib.Seq.{take-take}
 use Rattle.reading.specs.Bytes.{be4}
+use Rattle.reading.specs.Utf8.{utf8}
 use Rattle.reading.specs.Script.{Width, six, eight, sixteen, Value, number, octets, part, nothing, Item, word, long, opaque, string}
 use Rattle.reading.specs.Cursor.{got, read-item, times, follow}
 use Rattle.reading.specs.Layout.{Field, plain, mac, any-word, words, bytes}
@@ -30,6 +31,7 @@ use Rattle.xdr.specs.declared.Part.{Part}
 use Rattle.xdr.specs.declared.Part.the-variants as a-part
 use Rattle.xdr.specs.declared.Block.{Block}
 use Rattle.xdr.specs.Shown.{place, Inside, Reads, Answers, accepted, Is-block, span, refusal, word-out, long-out, part-out, passed-out}
+use Rattle.xdr.proofs.Laws.{string-got}
 use Rattle.xdr.proofs.Inside.{after-item}
 use Rattle.xdr.proofs.Rows.{reads-inside, words-inside}
 use Rattle.flows.specs.declared.lists.Ranged.{Ranged}
@@ -116,6 +118,12 @@ module _ {l : List Field} {s : List ℕ} {p : Passed} where
   pub handed-on : {x : Outcome} {vs : List Value} → p ≡ passed.Stop x → Then l s p (passed.Stop x) vs
   handed-on e = rw e stays
 
+  pub over-still : {x : Outcome} → p ≡ passed.Stop x → Ends l s p (passed.Stop x)
+  over-still e = ends {vs = []} (handed-on e)
+
+  pub on-from : {c : Cursor} {q : Passed} → p ≡ passed.Got c → Ends l s (passed.Got c) q → Ends l s p q
+  on-from e t = rw e t
+
   -- the range of what was not counted
   pub no-list : {x : Outcome} {r : Ranged} {vs : List Value} → p ≡ passed.Stop x → r ≡ no-range x → Then l s p (r .passed) vs
   no-list e h = rw (e, h) stays
@@ -140,6 +148,10 @@ module _ (i : Item) (s : List ℕ) (c : Cursor) where
   item-halts : {x : Outcome} {vs : List Value} → refusal x ≡ read-item i s (place c) → Then (plain i ∷ []) s (passed.Got c) (passed.Stop x) vs
   unfolding field-out
   item-halts e = halts (sole-halts (plain i) s (place c) (sym e))
+
+  -- the same where nothing is kept
+  pub item-cut : {x : Outcome} → refusal x ≡ read-item i s (place c) → Ends (plain i ∷ []) s (passed.Got c) (passed.Stop x)
+  item-cut e = ends {vs = []} (item-halts e)
 
 module _ (s : List ℕ) {p : Passed} (c : Cursor) (h : p ≡ passed.Got c) {w : Word} (f : word-out w ≡ read-item word s (place c)) where
   pub then-word : {v : ℕ} {d : Cursor} → Inside s c → w ≡ a-word.Got v d → Then (words 1) s p (passed.Got d) (number v ∷ [])
@@ -295,6 +307,11 @@ then-part s c i o h j e q = rw (h, q) (go o e)
     go : (o : Part) → part-out o ≡ read-item i s (place c) → Then (plain i ∷ []) s (passed.Got c) (range-of o .passed) (part (span (range-of o .span)) ∷ [])
     go (a-part.Got x d) e = item-goes i s c j e
     go (a-part.Stop x) e = item-halts i s c e
+
+-- a string that is passed, by its opaque
+pub text-passed : (s : List ℕ) (c : Cursor) {o : Part} → part-out o ≡ read-item opaque s (place c) → {x : Span} {d : Cursor} → o ≡ a-part.Got x d → Inside s c
+    → {b : Bool} {end : ℕ} → end ≡ x .start + x .count → b ≡ utf8 (take (end - x .start) (drop (x .start) s)) → b ≡ true → Ends (plain string ∷ []) s (passed.Got c) (passed.Got d)
+text-passed s c e h i z u t = ends (item-goes string s c i (string-got s c e h z u t))
 
 pub range-arm : {k j : Kind} {s : List ℕ} {c : Cursor} {q : Passed} {vs : List Value} → k ≡ j → Reads (field-of j ∷ []) s c q vs → Reads (field-of k ∷ []) s c q vs
 range-arm e r = rw e r

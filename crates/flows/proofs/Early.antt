@@ -12,7 +12,7 @@ use mir.Syntax.{w64}
 use mir.Val.{Fits}
 use Rattle.reading.specs.Bytes.{be4, padded}
 use Rattle.reading.specs.Script.{number, nothing, word, opaque, give}
-use Rattle.reading.specs.Cursor.{Out, got, max-opaque, read-item, times, follow}
+use Rattle.reading.specs.Cursor.{Out, got, read-item, times, follow}
 use Rattle.reading.specs.Layout.{plain, protocol, words, fields, opened, flows, flow}
 use Rattle.reading.specs.Answer.{layout-of}
 use Rattle.reading.proofs.Words.{numbers, row-got}
@@ -35,7 +35,7 @@ use Rattle.flows.specs.Passing.{Passes, Passes-record}
 use Rattle.flows.proofs.Chain.{both, item-goes, unsure}
 use Rattle.flows.proofs.Formats.{arm}
 use Rattle.flows.proofs.Protocols.{known-protocol}
-use Rattle.flows.proofs.Scan.{scan-inside, scan-on, scan-turn, flow-thrift, frame-ends, frame-fits, frame-part, frame-scan, record-got, data-got}
+use Rattle.flows.proofs.Scan.{scan-inside, scan-short, scan-on, scan-turn, flow-thrift, frame-ends, frame-fits, frame-part, frame-scan, record-got, data-got}
 
 -- ---- a payload
 module _ (k : ℕ) (s : List ℕ) (c : Cursor) (f : ℕ) where
@@ -52,7 +52,7 @@ pub passes-none : {s : List ℕ} {c : Cursor} {f : ℕ} {x : Outcome} → Passes
 passes-none = record { flat = λ w. unsure w; is = λ w. unsure w }
 
 -- format 1, by one look at its words
-module _ (s : List ℕ) (c : Cursor) {k n p : ℕ} (v : n ≡ be4 s (c .at + 12)) (z : p ≡ padded n) (u : k ≡ be4 s (c .at)) (g : Inside s c) (h : 16 ≤ length s - c .at) (i : p ≤ length s - c .at - 16) (l : n ≤ max-opaque) where
+module _ (s : List ℕ) (c : Cursor) {k n p : ℕ} (v : n ≡ be4 s (c .at + 12)) (z : p ≡ padded n) (u : k ≡ be4 s (c .at)) (g : Inside s c) (h : 16 ≤ length s - c .at) (i : p ≤ length s - c .at - 16) (l : length s ≤ 16777216) where
   abbrev second : Cursor
   second = record { at = c .at + 4 + 8; steps = c .steps + 1 + 2 }
 
@@ -66,7 +66,7 @@ module _ (s : List ℕ) (c : Cursor) {k n p : ℕ} (v : n ≡ be4 s (c .at + 12)
       let o : c .at + 4 + 8 ≡ c .at + 12 = omega arith in
       let w : got (number n) (place (behind 4 second)) ≡ read-item word s (place second) = word-got s second (v ∙ ap (be4 s) (sym o)) refl j (omega arith) in
       let t : padded n ≤ length s - (c .at + 4 + 8 + 4) = omega arith in
-      let three = item-goes opaque s second j (opaque-got s (place second) w l t) in
+      let three = item-goes opaque s second j (opaque-got s (place second) w (omega arith) t) in
       ends (both (both one two) three)
 
   pub sampled-passes : 1 ≤ k → k ≤ 17 → opened (flows (give nothing)) 1 ≡ fields (layout-of 2 1) (λ _. give nothing) → layout-of 2 1 ≡ protocol ∷ words 2 ++ plain opaque ∷ []
@@ -81,10 +81,13 @@ pub record-none : {s : List ℕ} {c : Cursor} {x : Outcome} → Passes-record s 
 record-none = record { is = λ w. unsure w }
 
 module _ (s : List ℕ) (c : Cursor) {r : Frame} (e : frame-out r ≡ frame-at s (place c)) {f : ℕ} {x : Span} {d : Cursor} (h : r ≡ frame.Got f x d) where
-  pub frame-within : (m : ℕ) → m ≤ length s → x .start + x .count ≤ m → Inside s c → Inside (take m s) (record { at = x .start; steps = d .steps })
-  frame-within m i j g =
-      let k : Scan s c 0 = record { inside = g .inside; counted = g .counted; few = omega arith } in
+  pub frame-within : (m : ℕ) → m ≤ length s → x .start + x .count ≤ m → Inside s c → length s ≤ 16777216 → Inside (take m s) (record { at = x .start; steps = d .steps })
+  frame-within m i j g l =
+      let k : Scan s c 0 = record { inside = g .inside; counted = g .counted; few = omega arith; short = l } in
       scan-inside (frame-scan s c e h m i 0 j k)
+
+  pub part-short : (m : ℕ) → m ≤ length s → length s ≤ 16777216 → length (take m s) ≤ 16777216
+  part-short m i l = let z = frame-part s c e h m i in omega arith
 
   pub record-passed : {q : Passed} {u : Cursor} → Passes (take (x .start + x .count) s) (record { at = x .start; steps = d .steps }) f q → q ≡ passed.Got u
       → Passes-record s c (passed.Got (record { at = d .at; steps = u .steps }))
@@ -109,4 +112,4 @@ module _ (s : List ℕ) (c : Cursor) (k : ℕ) {r : Passed} {d : Cursor} (p : Pa
   pub ahead-turn : (n : ℕ) {t : Out ℕ} → counted k (times n (follow (flow 8 8)) s (place c)) ≡ t → 0 < n → counted (k + 1) (times (n - 1) (follow (flow 8 8)) s (place d)) ≡ t
   ahead-turn n h z = scan-turn (flow 8 8) s c k n {m = scanned.Got d (k + 1)} (p .is w k) refl h z
 
-pub ruleset passing = (scan-inside, frame-ends, frame-fits, frame-part, frame-within, record-none, record-passed, ahead-scan, ahead-fits, ahead-turn, needs)
+pub ruleset passing = (scan-inside, scan-short, part-short, frame-ends, frame-fits, frame-part, frame-within, record-none, record-passed, ahead-scan, ahead-fits, ahead-turn, needs)

@@ -16,7 +16,7 @@ use Rattle.reading.specs.Layout.{words, last-number, opened, flows, flow, pdu}
 use Rattle.reading.specs.Answer.{size}
 use Rattle.reading.proofs.Items.{never, word-seen}
 use Rattle.reading.proofs.Counts.{counted, counted-stop, counted-none, turn-got, turn-stop, turns-done, resumed, framing, framing-cut, framing-short, framing-got, frame-at, frame-stop, frame-held, pdu-cut, pdu-held, fields-stop, each-held}
-use Rattle.reading.proofs.Opaques.{opaque-got}
+use Rattle.reading.proofs.Opaques.{opaque-long, opaque-short, opaque-got}
 use Rattle.reading.proofs.Framed.{Framed-at, framing-lies}
 use Rattle.reading.proofs.Bounds.{Owes, owes}
 use Rattle.reading.proofs.Room.{Thrifty, thrifty-flow, thrifty-pdu}
@@ -42,6 +42,9 @@ use Rattle.flows.specs.Scanned.{Scan, frame-out, scanned-out}
 pub scan-inside : {s : List ℕ} {c : Cursor} {k : ℕ} → Scan s c k → Inside s c
 scan-inside g = record { inside = g .inside; counted = g .counted }
 
+pub scan-short : {s : List ℕ} {c : Cursor} {k : ℕ} → Scan s c k → length s ≤ 16777216
+scan-short g = g .short
+
 -- ---- where a script ends that passes four bytes for each descriptor
 
 pub record Thrift (sc : Script) : Type 0 where
@@ -66,7 +69,7 @@ module _ (sc : Script) (s : List ℕ) (c : Cursor) (k : ℕ) {m : Scanned} (e : 
           let o = rw f at (owes sc s (place c) (g .inside)) in
           let i : d .at ≡ q .at = ap (λ (p : Place). p .at) y in
           let l : d .steps ≡ q .steps = ap (λ (p : Place). p .steps) y in
-          record { inside = omega (arith, o .1); counted = omega (arith, o .0, o .2, g .counted); few = omega (arith, g .few) }
+          record { inside = omega (arith, o .1); counted = omega (arith, o .0, o .2, g .counted); few = omega (arith, g .few); short = g .short }
       go (stop x a n) f h = never (sym h)
 
 -- ---- so many in a row
@@ -102,7 +105,7 @@ module _ (s : List ℕ) (c : Cursor) (k : ℕ) (g : Scan s c k) {w : Word} (e : 
   passed-word h = let r = word-seen s (place c) (rw h at e) in (r .0, ap (λ (p : Place). p .at) (r .2), ap (λ (p : Place). p .steps) (r .2))
 
   pub word-scan : {n : ℕ} {d : Cursor} → w ≡ a-word.Got n d → Scan s d (k + 1)
-  word-scan h = let r = passed-word h in record { inside = omega (arith, r .0, r .1); counted = omega (arith, r .1, r .2, g .counted); few = omega (arith, r .1, g .few) }
+  word-scan h = let r = passed-word h in record { inside = omega (arith, r .0, r .1); counted = omega (arith, r .1, r .2, g .counted); few = omega (arith, r .1, g .few); short = g .short }
 
   pub word-counts : {n : ℕ} {d : Cursor} → w ≡ a-word.Got n d → length s < 2 ^ 64 → Fits w64 (k + 1)
   word-counts h l = let r = passed-word h in record { fits = omega (arith, r .0, g .few) }
@@ -120,18 +123,27 @@ module _ (s : List ℕ) (c : Cursor) {w : Word} (e : word-out w ≡ read-item wo
     frame-got g = framing-got s (place c) (rw h at e) (rw g at i)
 
 -- the same by one look at its two words
-pub frame-there : (s : List ℕ) (c : Cursor) {n p f : ℕ} → n ≡ be4 s (c .at + 4) → p ≡ padded n → f ≡ be4 s (c .at) → Inside s c → 8 ≤ length s - c .at → p ≤ length s - c .at - 8 → n ≤ max-opaque
-    → got (framing f (record { start = c .at + 8; count = n })) (place (record { at = c .at + 8 + p; steps = c .steps + 2 })) ≡ frame-at s (place c)
-frame-there s c {n} {p} {f} v z u g h k l =
-    let d : Cursor = behind 4 c in
-    let j : Inside s d = record { inside = omega (arith, g .inside); counted = omega (arith, g .counted) } in
-    let e : got (number f) (place d) ≡ read-item word s (place c) = word-got s c u refl g (omega arith) in
-    let w : got (number n) (place (behind 4 d)) ≡ read-item word s (place d) = word-got s d v refl j (omega arith) in
-    let t : padded n ≤ length s - (c .at + 4 + 4) = omega arith in
-    let i = opaque-got s (place d) w l t in
-    let a : c .at + 4 + 4 ≡ c .at + 8 = omega arith in
-    let b : c .steps + 1 + 1 ≡ c .steps + 2 = omega arith in
-    rw (z, ← a, ← b) (framing-got s (place c) e i)
+module _ (s : List ℕ) (c : Cursor) {n p : ℕ} (v : n ≡ be4 s (c .at + 4)) (z : p ≡ padded n) (g : Inside s c) (h : 8 ≤ length s - c .at) where
+  first-word : {f : ℕ} → f ≡ be4 s (c .at) → got (number f) (place (behind 4 c)) ≡ read-item word s (place c)
+  first-word u = word-got s c u refl g (omega arith)
+
+  second-word : got (number n) (place (behind 4 (behind 4 c))) ≡ read-item word s (place (behind 4 c))
+  second-word = word-got s (behind 4 c) v refl (record { inside = omega (arith, g .inside); counted = omega (arith, g .counted) }) (omega arith)
+
+  pub frame-long : {d : Cursor} {x : Outcome} → d ≡ behind 4 c → x ≡ refused 5 d → max-opaque < n → refusal x ≡ frame-at s (place c)
+  frame-long y e l = rw (e, y) (framing-short s (place c) (first-word refl) (opaque-long s (place (behind 4 c)) second-word l))
+
+  module _ (k : length s - c .at - 8 < p) where
+    pub frame-over : {d : Cursor} {x : Outcome} → d ≡ behind 4 c → x ≡ refused 2 d → n ≤ max-opaque → refusal x ≡ frame-at s (place c)
+    frame-over y e l = rw (e, y) (framing-short s (place c) (first-word refl) (opaque-short s (place (behind 4 c)) second-word l (omega arith)))
+
+  pub frame-there : {f : ℕ} → f ≡ be4 s (c .at) → p ≤ length s - c .at - 8 → length s ≤ 16777216
+      → got (framing f (record { start = c .at + 8; count = n })) (place (record { at = c .at + 8 + p; steps = c .steps + 2 })) ≡ frame-at s (place c)
+  frame-there u k l =
+      let i = opaque-got s (place (behind 4 c)) second-word (omega arith) (omega arith) in
+      let a : c .at + 4 + 4 ≡ c .at + 8 = omega arith in
+      let b : c .steps + 1 + 1 ≡ c .steps + 2 = omega arith in
+      rw (z, ← a, ← b) (framing-got s (place c) (first-word u) i)
 
 -- ---- a record, by its frame
 module _ (s : List ℕ) (c : Cursor) {r : Frame} (e : frame-out r ≡ frame-at s (place c)) {f : ℕ} {x : Span} {d : Cursor} (h : r ≡ frame.Got f x d) where
@@ -156,7 +168,7 @@ module _ (s : List ℕ) (c : Cursor) {r : Frame} (e : frame-out r ≡ frame-at s
     frame-scan k j g =
         let y = lies in
         let z = frame-part in
-        record { inside = omega arith; counted = omega (arith, y .start, y .steps, g .counted); few = omega (arith, y .start, g .few) }
+        record { inside = omega arith; counted = omega (arith, y .start, y .steps, g .counted); few = omega (arith, y .start, g .few); short = omega (arith, g .short) }
 
 abbrev holds : ℕ → ℕ → Script
 holds left f = opened (flows (pdu (8 - left) (flow 8 left))) f
@@ -234,4 +246,4 @@ module _ (left : ℕ) (s : List ℕ) (c : Cursor) (k : ℕ) {o : Outcome} {p : P
   reads-scan {d} h g =
       let i : Inside s d = reads-inside (words 1) s c e h (scan-inside g) in
       let f : c .at ≤ d .at = row-forward (words 1) s c (shown-row s c (words 1) e h) (g .inside) in
-      record { inside = i .inside; counted = i .counted; few = omega (arith, g .few) }
+      record { inside = i .inside; counted = i .counted; few = omega (arith, g .few); short = g .short }

@@ -11,11 +11,12 @@ use Rattle.flows.specs.declared.frames.Frame.the-variants as frame
 use Rattle.flows.specs.declared.frames.Scanned.{Scanned}
 use Rattle.flows.specs.declared.frames.Scanned.the-variants as scanned
 
--- a cursor inside the input, with no more items and no more descriptors than bytes before it
+-- a cursor inside an input that is not too long, with no more items and no more descriptors than bytes before it
 pub record Scan (s : List ℕ) (c : Cursor) (k : ℕ) : Type 0 where
   pub inside : c .at ≤ length s
   pub counted : c .steps ≤ c .at
   pub few : k ≤ c .at
+  pub short : length s ≤ 16777216
 
 abbrev pub frame-out : Frame → Out Framing
 frame-out (frame.Got f x c) = got (framing f (span x)) (place c)

@@ -1,11 +1,12 @@
 // Flow records that are passed ahead of the full reading, in one loop: those of the layouts that are most often met, which hold no others and
 // no text. A record that is of another format, or has something amiss, is where it stops: `records` reads every record, and tells.
 ghost use mathlib.Core.Path.{_≡_};
+ghost use Prim.Native.Nat.{_≤_};
+ghost use lib.ListN.{length};
 ghost use Rattle.flows.specs.Scanned.{Scan};
 ghost use Rattle.flows.specs.Passing.{Passes, Passes-record, Ahead-of};
 ghost use Rattle.xdr.specs.Shown.{Inside};
 use crate::frames::Frame;
-use crate::frames::MAX_OPAQUE_SIZE;
 use crate::pass::Row;
 use xdr::Cursor;
 use xdr::Passed;
@@ -21,6 +22,7 @@ pub struct Ahead {
 // Format 1, by one look at its words and its end.
 fn sampled_header(c: Cursor, s: &[u8]) -> Passed
     requires { ⌜ Inside (now s) c ⌝ }
+    requires { ⌜ length (now s) ≤ 16777216 ⌝ }
     ensures { λ r. ⌜ Passes (now (s .entry)) c 1 r ⌝ }
 {
     let at = c.at;
@@ -41,9 +43,6 @@ fn sampled_header(c: Cursor, s: &[u8]) -> Passed
     if room - 16 < padded {
         return Passed::Stop(c.refusal(0));
     }
-    if MAX_OPAQUE_SIZE < length {
-        return Passed::Stop(c.refusal(0));
-    }
     Passed::Got(Cursor {
         at: at + 16 + padded,
         steps: steps + 4,
@@ -53,6 +52,7 @@ fn sampled_header(c: Cursor, s: &[u8]) -> Passed
 // The payload of a record of this format. A refusal says nothing here.
 fn payload(c: Cursor, s: &[u8], format: u32) -> Passed
     requires { ⌜ Inside (now s) c ⌝ }
+    requires { ⌜ length (now s) ≤ 16777216 ⌝ }
     ensures { λ r. ⌜ Passes (now (s .entry)) c format r ⌝ }
 {
     let row = Row {
@@ -60,9 +60,7 @@ fn payload(c: Cursor, s: &[u8], format: u32) -> Passed
     };
     match format {
         1 => sampled_header(c, s),
-        3 => row.words(s, 8).passed,
         1001 => row.words(s, 4).passed,
-        1011 => row.words(s, 1).passed,
         _ => Passed::Stop(c.refusal(0)),
     }
 }
@@ -70,6 +68,7 @@ fn payload(c: Cursor, s: &[u8], format: u32) -> Passed
 // One record, likewise.
 fn one_record(s: &[u8], c: Cursor) -> Passed
     requires { ⌜ Inside (now s) c ⌝ }
+    requires { ⌜ length (now s) ≤ 16777216 ⌝ }
     ensures { λ r. ⌜ Passes-record (now (s .entry)) c r ⌝ }
 {
     match Frame::parse(c, s) {

@@ -1,9 +1,12 @@
 // A frame: a format word and an opaque, as samples and records have it; and what a pass over frames answers.
 ghost use mathlib.Core.Path.{_≡_};
+ghost use Prim.Native.Nat.{_≤_};
+ghost use lib.ListN.{length};
 ghost use Rattle.reading.proofs.Counts.{frame-at};
 ghost use Rattle.xdr.specs.Shown.{Inside, place};
 ghost use Rattle.flows.specs.Scanned.{frame-out};
 use xdr::Cursor;
+use xdr::MAX_OPAQUE_SIZE;
 use xdr::Outcome;
 use xdr::Part;
 use xdr::Span;
@@ -22,13 +25,11 @@ pub enum Scanned {
     Stop(Outcome),
 }
 
-// The longest opaque, as `read_opaque` has it.
-pub const MAX_OPAQUE_SIZE: u32 = 104857600;
-
 impl Frame {
-    // By one look at its two words and its end. A frame with something amiss is gone through item by item.
+    // By one look at its two words and its end: where that is inside, the length is not over the limit, for no input is as long.
     pub fn parse(c: Cursor, s: &[u8]) -> Frame
         requires { ⌜ Inside (now s) c ⌝ }
+        requires { ⌜ length (now s) ≤ 16777216 ⌝ }
         ensures { λ r. ⌜ frame-out r ≡ frame-at (now (s .entry)) (place c) ⌝ }
     {
         let at = c.at;
@@ -41,10 +42,10 @@ impl Frame {
         let count = length as usize;
         let padded = load::padded(count);
         if room - 8 < padded {
-            return Frame::by_items(c, s);
-        }
-        if MAX_OPAQUE_SIZE < length {
-            return Frame::by_items(c, s);
+            if MAX_OPAQUE_SIZE < length {
+                return Frame::Stop(c.past(4).refusal(5));
+            }
+            return Frame::Stop(c.past(4).refusal(2));
         }
         let format = load::be32(s, at);
         Frame::Got(
@@ -60,6 +61,7 @@ impl Frame {
         )
     }
 
+    // A frame that is too short for its two words.
     fn by_items(c: Cursor, s: &[u8]) -> Frame
         requires { ⌜ Inside (now s) c ⌝ }
         ensures { λ r. ⌜ frame-out r ≡ frame-at (now (s .entry)) (place c) ⌝ }

@@ -3,15 +3,37 @@ ghost use mathlib.Core.List.{[], _∷_};
 ghost use mathlib.Core.Bool.{cond};
 ghost use Rattle.reading.specs.Script.{long, opaque, six, sixteen};
 ghost use Rattle.reading.specs.Layout.{plain, protocol, mac, addr, list, segments, str, words, bytes};
+ghost use Rattle.xdr.specs.Shown.{Inside};
 ghost use Rattle.flows.specs.Chain.{Within, Ends};
 use crate::next;
 use crate::next::Kind;
 use crate::sampled;
+use xdr::Cursor;
+use xdr::Part;
 use xdr::Passed;
+use xdr::utf8;
 
 // How far it was passed.
 pub struct Row {
     pub passed: Passed,
+}
+
+// A string, as `read_string` has it. What it is asked of `is_utf8` is a plain yes or no, which a call hands back in a register.
+fn text_at(c: Cursor, s: &[u8]) -> Passed
+    requires { ⌜ Inside (now s) c ⌝ }
+    ensures { λ r. ⌜ Ends (str ∷ []) (now (s .entry)) (Passed.Got c) r ⌝ }
+{
+    match c.read_opaque(s) {
+        Part::Stop(r) => Passed::Stop(r),
+        Part::Got(x, d) => {
+            let start = x.start;
+            let end = start + x.count;
+            if utf8::is_utf8(&s[start..end]) {
+                return Passed::Got(d);
+            }
+            Passed::Stop(c.refusal(7))
+        }
+    }
 }
 
 impl Row {
@@ -92,9 +114,14 @@ impl Row {
         ensures { λ r. ⌜ Ends (str ∷ []) (now (s .entry)) (self .passed) (r .passed) ⌝ }
     {
         let p = self.passed;
-        let field = next::text(p, s);
-        let passed = field.passed;
-        Row { passed: passed }
+        match p {
+            Passed::Stop(r) => Row {
+                passed: Passed::Stop(r),
+            },
+            Passed::Got(c) => Row {
+                passed: text_at(c, s),
+            },
+        }
     }
 
     pub fn list(self, s: &[u8]) -> Row

@@ -3,12 +3,11 @@ ghost use mathlib.Core.Path.{_≡_};
 ghost use mathlib.Core.List.{[], _∷_};
 ghost use Prim.Native.Nat.{_+_, _-_, _*_, _≤_};
 ghost use lib.ListN.{length};
-ghost use Rattle.reading.specs.Bytes.{be4};
 ghost use Rattle.reading.specs.Cursor.{times, follow};
 ghost use Rattle.reading.specs.Layout.{opened, flows, flow, pdu};
 ghost use Rattle.reading.specs.Answer.{from};
 ghost use Rattle.reading.proofs.Stored.{write};
-ghost use Rattle.flows.specs.Written.{Ready, written, placed, filled, fills};
+ghost use Rattle.flows.specs.Written.{Ready, Framed-here, a-pen, written, packed, framed-at, placed, filled, fills};
 ghost use Rattle.flows.specs.Passing.{Flat-of};
 use numbers::DataFormat;
 use xdr::load;
@@ -50,76 +49,10 @@ pub fn put(store: &mut [u32], i: usize, d: Descriptor)
     store[at + 5] = d.depth;
 }
 
-// n flow records in a row.
-pub fn put_flow_records(
-    s: &[u8],
-    at: usize,
-    n: u32,
-    left: usize,
-    store: &mut [u32],
-    pen: Pen,
-) -> Written
-    requires { ⌜ left ≤ 8 ⌝ }
-    requires { ⌜ Ready (now s) (now store) pen (times n (follow (flow 8 left)) (now s) (from at)) ⌝ }
-    ensures { λ r. ⌜ written r (now (store .exit)) ≡ placed pen (times n (follow (flow 8 left)) (now (s .entry)) (from at)) (now (store .entry)) ⌝ }
-{
-    let base = pen.base;
-    let parent = pen.parent;
-    let mut cur = at;
-    let mut next = pen.next;
-    let mut rest = n;
-    while 0 < rest {
-        let flat = put_flat_records(
-            s,
-            cur,
-            rest,
-            left,
-            &mut *store,
-            Pen {
-                base: base,
-                parent: parent,
-                next: next,
-            },
-        );
-        cur = flat.at;
-        next = flat.next;
-        rest = flat.rest;
-        if 0 < rest {
-            let w = put_flow_record(
-                s,
-                cur,
-                left,
-                &mut *store,
-                Pen {
-                    base: base,
-                    parent: parent,
-                    next: next,
-                },
-            );
-            cur = w.at;
-            next = w.next;
-            rest = rest - 1;
-        }
-    }
-    Written {
-        at: cur,
-        next: next,
-    }
-}
-
-// Where flat records end: the next byte, the descriptors written, and the records that are left.
-pub struct Flat {
-    pub at: usize,
-    pub next: usize,
-    pub rest: u32,
-}
-
-// One flow record that is no aggregation, and so holds no others.
-fn put_flat_record(s: &[u8], at: usize, left: usize, store: &mut [u32], pen: Pen) -> Written
-    requires { ⌜ left ≤ 8 ⌝ }
-    requires { ⌜ (be4 (now s) at ≡ 1016 → ⊥) ⌝ }
-    requires { ⌜ Ready (now s) (now store) pen (follow (flow 8 left) (now s) (from at)) ⌝ }
-    ensures { λ r. ⌜ written r (now (store .exit)) ≡ placed pen (follow (flow 8 left) (now (s .entry)) (from at)) (now (store .entry)) ⌝ }
+// The descriptor of the frame at `at`; past the frame.
+pub fn put_frame(s: &[u8], at: usize, kind: u32, depth: u32, store: &mut [u32], pen: Pen) -> Written
+    requires { ⌜ Framed-here (now s) (now store) at pen ⌝ }
+    ensures { λ r. ⌜ written r (now (store .exit)) ≡ framed-at kind depth (now (s .entry)) at pen (now (store .entry)) ⌝ }
 {
     let format = load::be32(s, at);
     let length = load::be32(s, at + 4);
@@ -129,18 +62,25 @@ fn put_flat_record(s: &[u8], at: usize, left: usize, store: &mut [u32], pen: Pen
         store,
         i,
         Descriptor {
-            kind: 2,
+            kind: kind,
             format: DataFormat(format),
             start: start as u32,
             length: length,
             parent: pen.parent,
-            depth: (9 - left) as u32,
+            depth: depth,
         },
     );
     Written {
         at: start + load::padded(length as usize),
         next: i + 1,
     }
+}
+
+// Where flat records end: the next byte, the descriptors written, and the records that are left.
+pub struct Flat {
+    pub at: usize,
+    pub next: usize,
+    pub rest: u32,
 }
 
 // Of n flow records in a row, those up to the first aggregation: most samples hold none, and this is one loop.
@@ -158,6 +98,7 @@ pub fn put_flat_records(
 {
     let base = pen.base;
     let parent = pen.parent;
+    let depth = (9 - left) as u32;
     let mut cur = at;
     let mut next = pen.next;
     let mut rest = n;
@@ -169,10 +110,11 @@ pub fn put_flat_records(
                 rest: rest,
             };
         }
-        let w = put_flat_record(
+        let w = put_frame(
             s,
             cur,
-            left,
+            2,
+            depth,
             &mut *store,
             Pen {
                 base: base,
@@ -191,86 +133,31 @@ pub fn put_flat_records(
     }
 }
 
-// One flow record: what it holds first, then its own descriptor before that.
-fn put_flow_record(s: &[u8], at: usize, left: usize, store: &mut [u32], pen: Pen) -> Written
-    requires { ⌜ left ≤ 8 ⌝ }
-    requires { ⌜ Ready (now s) (now store) pen (follow (flow 8 left) (now s) (from at)) ⌝ }
-    ensures { λ r. ⌜ written r (now (store .exit)) ≡ placed pen (follow (flow 8 left) (now (s .entry)) (from at)) (now (store .entry)) ⌝ }
-{
-    let format = load::be32(s, at);
-    let length = load::be32(s, at + 4);
-    let count = length as usize;
-    let start = at + 8;
-    let end = start + count;
-    let i = pen.next;
-    let base = pen.base;
-    let me = base + i as u32;
-    let next = put_flow_data(
-        &s[..end],
-        start,
-        format,
-        left - 1,
-        &mut *store,
-        Pen {
-            base: base,
-            parent: me,
-            next: i + 1,
-        },
-    );
-    put(
-        store,
-        i,
-        Descriptor {
-            kind: 2,
-            format: DataFormat(format),
-            start: start as u32,
-            length: length,
-            parent: pen.parent,
-            depth: (9 - left) as u32,
-        },
-    );
-    Written {
-        at: start + load::padded(count),
-        next: next,
-    }
-}
+// In one number, the next byte stands above this, and the descriptors written below it.
+pub const ABOVE: usize = 4294967296;
 
-// What a flow record of this format holds; how many descriptors are then written.
-fn put_flow_data(
+// n flow records in a row. The next byte and the descriptors written come back in one number, since a call hands that back in a register:
+// levels nest, and each waits for the one inside it.
+pub fn put_flow_records(
     s: &[u8],
     at: usize,
-    format: u32,
+    n: u32,
     left: usize,
     store: &mut [u32],
-    pen: Pen,
+    base: u32,
+    parent: u32,
+    next: usize,
 ) -> usize
     requires { ⌜ left ≤ 8 ⌝ }
     requires { ⌜ at ≤ length (now s) ⌝ }
-    requires { ⌜ Ready (now s) (now store) pen (follow (opened (flows (pdu (8 - left) (flow 8 left))) format) (now s) (from at)) ⌝ }
-    ensures { λ r. ⌜ filled r (now (store .exit)) ≡ fills pen (follow (opened (flows (pdu (8 - left) (flow 8 left))) format) (now (s .entry)) (from at)) (now (store .entry)) ⌝ }
+    requires { ⌜ Ready (now s) (now store) (a-pen base parent next) (times n (follow (flow 8 left)) (now s) (from at)) ⌝ }
+    ensures { λ r. ⌜ packed r (now (store .exit)) ≡ placed (a-pen base parent next) (times n (follow (flow 8 left)) (now (s .entry)) (from at)) (now (store .entry)) ⌝ }
 {
-    let next = pen.next;
-    if format != 1016 {
-        return next;
-    }
-    let n = load::be32(s, at);
-    let w = put_pdus(s, at + 4, n, left, store, pen);
-    w.next
-}
-
-// n PDUs in a row.
-fn put_pdus(s: &[u8], at: usize, n: u32, left: usize, store: &mut [u32], pen: Pen) -> Written
-    requires { ⌜ left ≤ 8 ⌝ }
-    requires { ⌜ Ready (now s) (now store) pen (times n (follow (pdu (8 - left) (flow 8 left))) (now s) (from at)) ⌝ }
-    ensures { λ r. ⌜ written r (now (store .exit)) ≡ placed pen (times n (follow (pdu (8 - left) (flow 8 left))) (now (s .entry)) (from at)) (now (store .entry)) ⌝ }
-{
-    let base = pen.base;
-    let parent = pen.parent;
     let mut cur = at;
-    let mut next = pen.next;
+    let mut to = next;
     let mut rest = n;
     while 0 < rest {
-        let w = put_pdu(
+        let w = put_flow_record(
             s,
             cur,
             left,
@@ -278,54 +165,75 @@ fn put_pdus(s: &[u8], at: usize, n: u32, left: usize, store: &mut [u32], pen: Pe
             Pen {
                 base: base,
                 parent: parent,
-                next: next,
+                next: to,
             },
         );
         cur = w.at;
-        next = w.next;
+        to = w.next;
         rest = rest - 1;
     }
+    cur * ABOVE + to
+}
+
+// One flow record: its own descriptor, and, where it is an aggregation, its PDUs behind that.
+fn put_flow_record(s: &[u8], at: usize, left: usize, store: &mut [u32], pen: Pen) -> Written
+    requires { ⌜ left ≤ 8 ⌝ }
+    requires { ⌜ Ready (now s) (now store) pen (follow (flow 8 left) (now s) (from at)) ⌝ }
+    ensures { λ r. ⌜ written r (now (store .exit)) ≡ placed pen (follow (flow 8 left) (now (s .entry)) (from at)) (now (store .entry)) ⌝ }
+{
+    let depth = (9 - left) as u32;
+    if load::be32(s, at) != 1016 {
+        return put_frame(s, at, 2, depth, store, pen);
+    }
+    let base = pen.base;
+    let me = base + pen.next as u32;
+    let own = put_frame(s, at, 2, depth, &mut *store, pen);
     Written {
-        at: cur,
-        next: next,
+        at: own.at,
+        next: put_pdus(s, at + 8, left - 1, store, base, me, own.next),
     }
 }
 
-// One PDU: its records first, then its own descriptor before them, whose length they give.
-fn put_pdu(s: &[u8], at: usize, left: usize, store: &mut [u32], pen: Pen) -> Written
+// What an aggregation holds, a PDU count and its PDUs; how many descriptors are then written. The records of a PDU come first, then its own
+// descriptor before them, whose length they give.
+fn put_pdus(
+    s: &[u8],
+    at: usize,
+    left: usize,
+    store: &mut [u32],
+    base: u32,
+    parent: u32,
+    next: usize,
+) -> usize
     requires { ⌜ left ≤ 8 ⌝ }
-    requires { ⌜ Ready (now s) (now store) pen (follow (pdu (8 - left) (flow 8 left)) (now s) (from at)) ⌝ }
-    ensures { λ r. ⌜ written r (now (store .exit)) ≡ placed pen (follow (pdu (8 - left) (flow 8 left)) (now (s .entry)) (from at)) (now (store .entry)) ⌝ }
+    requires { ⌜ at ≤ length (now s) ⌝ }
+    requires { ⌜ Ready (now s) (now store) (a-pen base parent next) (follow (opened (flows (pdu (8 - left) (flow 8 left))) 1016) (now s) (from at)) ⌝ }
+    ensures { λ r. ⌜ filled r (now (store .exit)) ≡ fills (a-pen base parent next) (follow (opened (flows (pdu (8 - left) (flow 8 left))) 1016) (now (s .entry)) (from at)) (now (store .entry)) ⌝ }
 {
-    let n = load::be32(s, at);
-    let start = at + 4;
-    let i = pen.next;
-    let base = pen.base;
-    let me = base + i as u32;
-    let w = put_flow_records(
-        s,
-        start,
-        n,
-        left,
-        &mut *store,
-        Pen {
-            base: base,
-            parent: me,
-            next: i + 1,
-        },
-    );
-    let end = w.at;
-    put(
-        store,
-        i,
-        Descriptor {
-            kind: 4,
-            format: DataFormat(0),
-            start: start as u32,
-            length: (end - start) as u32,
-            parent: pen.parent,
-            depth: (8 - left) as u32,
-        },
-    );
-    w
+    let mut cur = at + 4;
+    let mut to = next;
+    let mut rest = load::be32(s, at);
+    while 0 < rest {
+        let n = load::be32(s, cur);
+        let start = cur + 4;
+        let me = base + to as u32;
+        let w = put_flow_records(s, start, n, left, &mut *store, base, me, to + 1);
+        let end = w / ABOVE;
+        put(
+            &mut *store,
+            to,
+            Descriptor {
+                kind: 4,
+                format: DataFormat(0),
+                start: start as u32,
+                length: (end - start) as u32,
+                parent: parent,
+                depth: (8 - left) as u32,
+            },
+        );
+        cur = end;
+        to = w % ABOVE;
+        rest = rest - 1;
+    }
+    to
 }

@@ -4,12 +4,13 @@ use mathlib.Core.Path.{_≡_, sym, ap, subst, _∙_}
 use mathlib.Core.List.{List, [], _++_}
 use native.Mathlib.Omega.{arith}
 use native.Mathlib.Nat.{zero-add}
-use lib.ListN.{length, take, length-append}
+use lib.ListN.{length, take, drop, length-append}
+use lib.Seq.{length-take-le}
 use Rattle.reading.specs.Script.{Found, Script}
 use Rattle.reading.specs.Cursor.{Place, got, follow}
 use Rattle.reading.specs.Grammar.{Is}
 use Rattle.reading.specs.Layout.{datagram}
-use Rattle.reading.proofs.Stands.{place, held}
+use Rattle.reading.proofs.Stands.{place, held, wider}
 use Rattle.reading.proofs.Complete.{complete}
 use Rattle.reading.proofs.Sound.{sound}
 
@@ -45,3 +46,12 @@ ended sc s p {a} {q} i e =
     let c : follow sc (take (p .at + length (r .read)) s) p ≡ got a (place (p .at + length (r .read)) (p .steps + r .items)) = complete sc _ (r .read) [] a (p .at) (p .steps) (r .items) (r .is) (held (p .at) (r .stands)) in
     let z : place (p .at + length (r .read)) (p .steps + r .items) ≡ q = λ j. record { at = sym (r .at) j; steps = sym (r .steps) j } in
     ap (λ (n : ℕ). follow sc (take n s) p) (r .at) ∙ c ∙ ap (λ (x : Place). got a x) z
+
+-- and where there is more of it
+pub longer : (sc : Script) (s : List ℕ) (m : ℕ) (p : Place) {a : Found} {q : Place} → m ≤ length s → p .at ≤ m → follow sc (take m s) p ≡ got a q → follow sc s p ≡ got a q
+longer sc s m p {a} {q} i j e =
+    let k : p .at ≤ length (take m s) = rw (length-take-le m s i) j in
+    let r = sound sc (take m s) p a q k e in
+    let c = complete sc s (r .read) (r .rest ++ drop m s) a (p .at) (p .steps) (r .items) (r .is) (wider m (p .at) i j (r .stands)) in
+    let z : place (p .at + length (r .read)) (p .steps + r .items) ≡ q = λ j. record { at = sym (r .at) j; steps = sym (r .steps) j } in
+    c ∙ ap (λ (x : Place). got a x) z

@@ -12,6 +12,7 @@ use Rattle.reading.specs.Script.{Span, Value, Forest, bare, _⊕_, Found
 use Rattle.reading.specs.Cursor.{Place, Out, got, stop, then, times, held-to, follow}
 use Rattle.reading.specs.Layout.{Field, fields, last-number, words, ranged, between, framed, pdu}
 use Rattle.reading.specs.Answer.{from}
+use Rattle.reading.proofs.Exactly.{longer}
 use Rattle.reading.proofs.Items.{never, split}
 use Rattle.reading.proofs.Stands.{place}
 use Rattle.reading.proofs.Steps.{Alike, both-got, both-stop, steady, steady-times}
@@ -54,12 +55,12 @@ pub alike-end : {o u : Out Found} → Alike o u → Accepted o → end-of o ≡ 
 unfolding end-of
 alike-end (both-got e) accepted = e
 
--- ---- a frame
+-- ---- a frame: what it holds is read so in the whole input too
 pub record Frame-at (kind depth : ℕ) (body : ℕ → Script) (s : List ℕ) (at : ℕ) : Type 0 where
   pub fits : at + 8 + padded (be4 s (at + 4)) ≤ length s
-  pub inner : Accepted (follow (body (be4 s at)) (take (at + 8 + be4 s (at + 4)) s) (from (at + 8)))
+  pub inner : Accepted (follow (body (be4 s at)) s (from (at + 8)))
   pub ranges : ranges-of (follow (framed kind depth body) s (from at))
-      ≡ ranged kind (be4 s at) depth (record { start = at + 8; count = be4 s (at + 4) }) (ranges-of (follow (body (be4 s at)) (take (at + 8 + be4 s (at + 4)) s) (from (at + 8))))
+      ≡ ranged kind (be4 s at) depth (record { start = at + 8; count = be4 s (at + 4) }) (ranges-of (follow (body (be4 s at)) s (from (at + 8))))
   pub end : end-of (follow (framed kind depth body) s (from at)) ≡ at + 8 + padded (be4 s (at + 4))
 
 module _ (kind depth : ℕ) (body : ℕ → Script) (s : List ℕ) (at : ℕ) where
@@ -82,10 +83,15 @@ module _ (kind depth : ℕ) (body : ℕ → Script) (s : List ℕ) (at : ℕ) wh
           → end-of (follow (framed kind depth body) s (from at)) ≡ at + 8 + padded (be4 s (at + 4))
           → Frame-at kind depth body s at
       moved format span u v h g r t =
+          let n : ℕ = at + 8 + be4 s (at + 4) in
+          let i : Accepted (follow (body (be4 s at)) (take n s) (from (at + 8))) = rw (u, v) at g in
+          let a = given (follow (body (be4 s at)) (take n s) (from (at + 8))) i in
+          let e : follow (body (be4 s at)) s (from (at + 8)) ≡ follow (body (be4 s at)) (take n s) (from (at + 8)) =
+          longer (body (be4 s at)) s n (from (at + 8)) (omega (arith, h)) (omega arith) (a .is) ∙ sym (a .is) in
           record {
             fits = h;
-            inner = rw (u, v) at g;
-            ranges = rw (u, v) at r;
+            inner = rw e i;
+            ranges = rw e (rw (u, v) at r);
             end = t;
           }
 

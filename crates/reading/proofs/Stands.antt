@@ -5,8 +5,8 @@ use mathlib.Core.List.{List, [], _∷_, _++_, append-assoc, append-nil}
 use native.Mathlib.Omega.{arith}
 use native.Mathlib.Nat.{add-zero, zero-add, suc-add, add-assoc}
 use borrow.Author.Tests.{le-leb}
-use lib.ListN.{length, take, drop, getD, length-append, List·getD-append}
-use lib.Seq.{getD-drop, drop-drop, drop-at, take-at, length-take-le, take-nil, drop-nil}
+use lib.ListN.{length, take, drop, getD, length-append, List·getD-append, take-append-drop}
+use lib.Seq.{getD-drop, drop-drop, drop-append-le, drop-at, take-at, length-take-le, take-nil, drop-nil}
 use Rattle.reading.specs.Bytes.{be4, padded}
 use Rattle.reading.specs.Cursor.{Place, got, fixed, max-opaque, awaited, read-opaque}
 use Rattle.reading.specs.Grammar.{Opaque}
@@ -84,3 +84,14 @@ held {s} {x} {rest} o h = record {
   there = drop-take o (length x) s ∙ bytes-there o h ∙ sym (append-nil x);
   fits = rw (length-take-le (o + length x) s (h .fits)) (omega arith);
 }
+
+-- what stands in the first m bytes stands in all of them
+pub wider : {s x rest : List ℕ} (m o : ℕ) → m ≤ length s → o ≤ m → Stands (take m s) o x rest → Stands s o x (rest ++ drop m s)
+wider {s} {x} {rest} m o i j h =
+    let k : length (take m s) ≡ m = length-take-le m s i in
+    record {
+      there =
+          ap (λ (t : List ℕ). drop o t) (sym (take-append-drop m s)) ∙ drop-append-le o (take m s) (drop m s) (omega arith)
+          ∙ ap (λ (t : List ℕ). t ++ drop m s) (h .there) ∙ append-assoc x rest (drop m s);
+      fits = omega (arith, h .fits);
+    }

@@ -1,54 +1,51 @@
 -- The second pass over samples: a law for each need of its functions, with the facts that the code has there. Assumes nothing.
-use Prim.Native.Nat.{ℕ, _+_, _*_, _-_, _≤_}
+use Prim.Native.Nat.{ℕ, _+_, _*_, _-_, _≤_, _<_}
 use mathlib.Core.Path.{_≡_, refl, sym, ap, _∙_}
-use mathlib.Core.List.{List, [], _∷_}
+use mathlib.Core.List.{List, []}
 use native.Mathlib.Omega.{arith}
-use native.Mathlib.Nat.{add-zero}
 use borrow.Author.Needs.{needs}
-use lib.ListN.{length, take}
-use Rattle.reading.specs.Bytes.{be4, padded}
+use lib.ListN.{length}
+use Rattle.reading.specs.Bytes.{be4}
 use Rattle.reading.specs.Script.{Found, Script}
 use Rattle.reading.specs.Cursor.{Out, times, follow}
 use Rattle.reading.specs.Layout.{words, last-number, opened, flow, counter, samples}
-use Rattle.reading.specs.Answer.{size, rows, from}
+use Rattle.reading.specs.Answer.{size, from}
 use Rattle.reading.proofs.Words.{numbers, row-got}
-use Rattle.reading.proofs.Stored.{write, write-none}
 use Rattle.reading.proofs.Places.{Accepted, ranges-of, Each-at, each-lies, words-lie}
 use Rattle.flows.specs.declared.put.Pen.{Pen}
-use Rattle.flows.specs.declared.put.Written.{Written}
 use Rattle.flows.specs.declared.put.Flat.{Flat}
-use Rattle.flows.specs.Written.{Ready, written, placed, filled, fills}
+use Rattle.flows.specs.Written.{Ready, Put, Framed-here, a-pen, framed-at, placed, filled, fills}
 use Rattle.flows.specs.Passing.{Flat-of}
 use Rattle.flows.proofs.Placing as placing
-use Rattle.flows.proofs.Placing.{a-pen, a-put, next-is, store-is}
+use Rattle.flows.proofs.Placing.{a-put, next-is, store-is}
 use Rattle.samples.specs.declared.fields.Kind.{Kind}
 use Rattle.samples.specs.declared.fields.Kind.the-variants as kind
 use Rattle.samples.specs.Held.{counted-by-last, held, words-of, Is-kind}
 use Rattle.samples.proofs.Sampling.{flows-words, counters-words, last-of}
 
--- nothing is found, and nothing written
-bare-filled : (o : Out Found) (pen : Pen) (l : List ℕ) → ranges-of o ≡ Rattle.reading.specs.Script.bare → filled (pen .next) l ≡ fills pen o l
-unfolding fills placed size rows
-bare-filled o pen l e = sym (rw (e, add-zero, write-none))
+-- ---- a counter record, which holds nothing of its own
+module _ (s l : List ℕ) (at base parent next n : ℕ) (g : Ready s l (a-pen base parent next) (times n (follow counter) s (from at))) (z : 0 < n) where
+  first : Ready s l (a-pen base parent next) (follow counter s (from at))
+  first = placing.ready-first counter n s l at base parent next g z
 
--- ---- a counter record
-module _ (s l : List ℕ) (at : ℕ) (pen : Pen) (g : Ready s l pen (follow counter s (from at))) {n f : ℕ} (v : n ≡ be4 s (at + 4)) (u : f ≡ be4 s at) where
-  raw-inside : filled (pen .next + 1) l ≡ fills (a-pen (pen .base) (pen .base + pen .next) (pen .next + 1)) (follow (opened [] f) (take (at + 8 + n) s) (from (at + 8))) l
-  unfolding opened follow ranges-of
-  raw-inside = bare-filled (follow (opened [] f) (take (at + 8 + n) s) (from (at + 8))) (a-pen (pen .base) (pen .base + pen .next) (pen .next + 1)) l refl
+  pub counter-here : Framed-here s l at (a-pen base parent next)
+  counter-here = placing.frame-here 3 1 (opened []) s l at (a-pen base parent next) first
 
-  pub counter-own : 6 * pen .next + 6 ≤ length l
-  counter-own = placing.frame-own 3 1 (opened []) s l at pen g v u (pen .base + pen .next) raw-inside
+  module _ {a b : ℕ} {l′ : List ℕ} (e : a-put a b l′ ≡ framed-at 3 1 s at (a-pen base parent next) l) where
+    counter-placed : a-put a b l′ ≡ placed (a-pen base parent next) (follow counter s (from at)) l
+    unfolding opened follow ranges-of
+    counter-placed = placing.frame-alone 3 1 (opened []) s l at (a-pen base parent next) first 1 e refl refl
 
-  pub counter-kept : {l″ : List ℕ} (ws : List ℕ) → l″ ≡ write l (6 * pen .next) ws → length l″ ≡ length l
-  counter-kept = placing.frame-kept 3 1 (opened []) s l at pen g v u (pen .base + pen .next) raw-inside
-
-  module _ {l″ : List ℕ} (q : l″ ≡ write l (6 * pen .next) (3 ∷ f ∷ (at + 8) ∷ n ∷ pen .parent ∷ 1 ∷ [])) where
-    pub counter-placed : {p : ℕ} → p ≡ padded n → a-put (at + 8 + p) (pen .next + 1) l″ ≡ placed pen (follow counter s (from at)) l
-    counter-placed = placing.frame-placed 3 1 (opened []) s l at pen g v u raw-inside refl q
+    pub counter-turn : {m : ℕ} {u : Put} → length l ≡ m → placed (a-pen base parent next) (times n (follow counter) s (from at)) l ≡ u
+        → (length l′ ≡ m) × Ready s l′ (a-pen base parent b) (times (n - 1) (follow counter) s (from a)) × (placed (a-pen base parent b) (times (n - 1) (follow counter) s (from a)) l′ ≡ u)
+    counter-turn k h = (
+      placing.kept-on (a-pen base parent next) _ l _ counter-placed k,
+      placing.ready-next counter n s l at base parent next counter-placed g z,
+      placing.put-turn counter n s l at base parent next counter-placed g z h,
+    )
 
 -- what was placed, without the position
-pub placed-fills : {w : Written} {l′ : List ℕ} (pen : Pen) (o : Out Found) (l : List ℕ) → written w l′ ≡ placed pen o l → filled (w .next) l′ ≡ fills pen o l
+pub placed-fills : {a b : ℕ} {l′ : List ℕ} (pen : Pen) (o : Out Found) (l : List ℕ) → a-put a b l′ ≡ placed pen o l → filled b l′ ≡ fills pen o l
 unfolding fills placed
 placed-fills pen o l e = let a = next-is pen o l e in let b = store-is pen o l e in λ h. record { next = a h; store = b h }
 
@@ -102,27 +99,23 @@ pub ruleset arms = (held-flows, held-counters, flows-words, counters-words, kind
 
 pub raw-filled : {r : Kind} (f : ℕ) (s l : List ℕ) (at : ℕ) (pen : Pen) → Is-kind r f → r ≡ kind.Raw → filled (pen .next) l ≡ fills pen (follow (opened (samples 8) f) s (from at)) l
 unfolding follow ranges-of
-raw-filled f s l at pen q e = bare-filled (follow (opened (samples 8) f) s (from at)) pen l (ap (λ (x : Script). ranges-of (follow x s (from at))) (q .is ∙ ap held e))
+raw-filled f s l at pen q e = placing.nothing-more (follow (opened (samples 8) f) s (from at)) pen l (ap (λ (x : Script). ranges-of (follow x s (from at))) (q .is ∙ ap held e))
 
 -- ---- the flow records of a sample: the flat ones, and the others
 module _ {s l : List ℕ} {at n : ℕ} {pen : Pen} {r : Flat} {l′ : List ℕ} (h : Flat-of 8 s l at n pen r l′) where
   pub flat-done : r .rest ≡ 0 → filled (r .next) l′ ≡ fills pen (times n (follow (flow 8 8)) s (from at)) l
   flat-done z =
-      placed-fills {w = record { at = r .at; next = r .next }} pen (times n (follow (flow 8 8)) s (from at)) l
+      placed-fills {a = r .at} {b = r .next} pen (times n (follow (flow 8 8)) s (from at)) l
       (placing.put-done (flow 8 8) (r .rest) s l′ (r .at) (pen .base) (pen .parent) (r .next) (h .same) (omega arith))
 
-  pub flat-more : {w : Written} {l″ : List ℕ} → written w l″ ≡ placed (a-pen (pen .base) (pen .parent) (r .next)) (times (r .rest) (follow (flow 8 8)) s (from (r .at))) l′ → filled (w .next) l″ ≡ fills pen (times n (follow (flow 8 8)) s (from at)) l
+  pub flat-more : {a b : ℕ} {l″ : List ℕ} → a-put a b l″ ≡ placed (a-pen (pen .base) (pen .parent) (r .next)) (times (r .rest) (follow (flow 8 8)) s (from (r .at))) l′ → filled b l″ ≡ fills pen (times n (follow (flow 8 8)) s (from at)) l
   flat-more e = placed-fills pen (times n (follow (flow 8 8)) s (from at)) l (e ∙ h .same)
 
-pub ruleset flat = (placing.flat-ready, placing.flat-length, flat-done, flat-more, placing.kept-on, needs)
+  -- where there is a record it lies in the input
+  pub flat-inside : (r .rest ≡ 0 → ⊥) → r .at ≤ length s
+  flat-inside z = let k = placing.flat-first 8 (r .rest) s l′ (r .at) (pen .base) (pen .parent) (r .next) (h .ready) (omega arith) in omega arith
 
--- ---- an opaque's length that a counter record skips
-module _ (s l : List ℕ) (at : ℕ) (pen : Pen) (g : Ready s l pen (follow counter s (from at))) where
-  pub counter-word : at + 4 ≤ length s
-  counter-word = placing.frame-word 3 1 (opened []) s l at pen g
-
-  pub counter-word2 : at + 4 + 4 ≤ length s
-  counter-word2 = placing.frame-word2 3 1 (opened []) s l at pen g
+pub ruleset flat = (placing.flat-ready, placing.flat-length, flat-done, flat-more, flat-inside, placing.kept-on, needs)
 
 pub ruleset writing = (
   placing.kept-on,
@@ -132,23 +125,14 @@ pub ruleset writing = (
   placing.put-turn,
   placing.pen-next,
   placing.pen-me,
-  placing.pen-more,
+  placing.frame-here,
   placing.frame-word,
-  placing.frame-word2,
-  placing.frame-four,
+  placing.frame-in,
   placing.frame-start,
-  placing.frame-start32,
-  placing.frame-end,
-  placing.frame-pad,
-  placing.frame-count,
-  placing.frame-part,
-  placing.frame-inside,
-  placing.frame-inner,
-  placing.frame-own,
   placing.frame-kept,
+  placing.frame-inner,
   placing.frame-placed,
-  counter-own,
-  counter-kept,
-  counter-placed,
+  counter-here,
+  counter-turn,
   needs,
 )

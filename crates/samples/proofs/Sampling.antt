@@ -1,16 +1,18 @@
 -- The first pass over samples: a law for each way out of its functions, with the facts that the code has there. Assumes nothing.
 use Prim.Native.Nat.{ℕ, zero, suc, _+_, _*_, _-_, _^_, _≤_, _<_}
 use mathlib.Core.Path.{_≡_, refl, sym, ap, _∙_}
-use mathlib.Core.List.{List, []}
+use mathlib.Core.List.{List, [], _∷_, _++_}
 use native.Mathlib.Omega.{arith}
+use native.Mathlib.Nat.{suc-add}
 use borrow.Author.Needs.{needs}
 use lib.ListN.{length, take}
 use mir.Syntax.{w64}
 use mir.Val.{Fits}
-use Rattle.reading.specs.Script.{Value, Script, give, repeat}
+use Rattle.reading.specs.Script.{Value, word, Script, give, repeat}
 use Rattle.reading.specs.Cursor.{Out, got, times, follow}
 use Rattle.reading.specs.Bytes.{be4}
-use Rattle.reading.specs.Layout.{Field, fields, words, last-number, opened, framed, flow, counter, samples, sample}
+use Rattle.reading.specs.Layout.{Field, plain, fields, words, last-number, opened, framed, flow, counter, samples, sample}
+use Rattle.reading.proofs.Fields.{fields-out}
 use Rattle.reading.proofs.Words.{numbers, last-word}
 use Rattle.reading.proofs.Counts.{counted, counted-none, resumed, frame-at, frame-stop, frame-held, fields-stop, each-held}
 use Rattle.reading.proofs.Room.{thrifty-counter, thrifty-sample}
@@ -19,7 +21,7 @@ use Rattle.xdr.specs.declared.Outcome.{Outcome}
 use Rattle.xdr.specs.declared.Span.{Span}
 use Rattle.xdr.specs.declared.Passed.{Passed}
 use Rattle.xdr.specs.declared.Passed.the-variants as passed
-use Rattle.xdr.specs.Shown.{place, refusal}
+use Rattle.xdr.specs.Shown.{place, Inside, refusal}
 use Rattle.xdr.proofs.Rows.{row-forward}
 use Rattle.flows.specs.declared.frames.Frame.{Frame}
 use Rattle.flows.specs.declared.frames.Frame.the-variants as frame
@@ -28,9 +30,9 @@ use Rattle.flows.specs.declared.frames.Scanned.the-variants as scanned
 use Rattle.flows.specs.declared.ahead.Ahead.{Ahead}
 use Rattle.flows.specs.Scanned.{Scan, frame-out, scanned-out}
 use Rattle.flows.specs.Passing.{Ahead-of}
-use Rattle.flows.specs.Chain.{Then, goes, halts, There}
-use Rattle.flows.proofs.Chain.{within-start}
-use Rattle.flows.proofs.Scan.{scan-inside, Thrift, scan-on, scan-done, scan-turn, scan-stop, frame-ends, frame-fits, frame-part, frame-counts, frame-scan}
+use Rattle.flows.specs.Chain.{Then, goes, halts, Ends, ends, There}
+use Rattle.flows.proofs.Chain.{both, within-start, within-ends}
+use Rattle.flows.proofs.Scan.{scan-inside, scan-short, Thrift, scan-on, scan-done, scan-turn, scan-stop, frame-ends, frame-fits, frame-part, frame-counts, frame-scan}
 use Rattle.samples.specs.declared.fields.Kind.{Kind}
 use Rattle.samples.specs.declared.fields.Kind.the-variants as kind
 use Rattle.samples.specs.Held.{counted-by-last, held, words-of, Is-kind, Counted, on, over, Has-last, rest-of}
@@ -87,8 +89,12 @@ counted-scan {s} {p} {k} {d} g h = go (rw h at g)
 pub fields-counted : {vs : List Value} {p : Passed} (l : List Field) (s : List ℕ) (c : Cursor) (k : ℕ) → Then l s (passed.Got c) p vs → Scan s c k → Counted s p k
 fields-counted l s c k (goes {e = d} e i) g =
     let f : c .at ≤ d .at = row-forward l s c (record { gives = e }) (g .inside) in
-    on {k = k} (record { inside = i .inside; counted = i .counted; few = omega (arith, g .few) })
+    on {k = k} (record { inside = i .inside; counted = i .counted; few = omega (arith, g .few); short = g .short })
 fields-counted l s c k (halts e) g = over
+
+-- the same in two parts
+pub rows-counted : {ws : List Value} {q p : Passed} (l m : List Field) (s : List ℕ) (c : Cursor) (k : ℕ) → Ends l s (passed.Got c) q → Then m s q p ws → Scan s c k → Counted s p k
+rows-counted l m s c k (ends t) u g = fields-counted (l ++ m) s c k (both t u) g
 
 -- ---- what a sample holds, by its kind
 pub flows-words : {r : Kind} {n : ℕ} → r ≡ kind.Flows n → words-of r ≡ n
@@ -117,6 +123,32 @@ pub last-of : (n : ℕ) (s : List ℕ) (at : ℕ) → 1 ≤ n → last-number (n
 last-of zero s at h = absurd (omega arith)
 last-of (suc n) s at h = let z : 4 * n ≡ 4 * suc n - 4 = omega arith in last-word n s at ∙ ap (λ (j : ℕ). be4 s (at + j)) z
 
+-- the last of two rows is that of the second
+pub last-behind : (us ws : List Value) → 1 ≤ length ws → last-number (us ++ ws) ≡ last-number ws
+unfolding last-number
+last-behind us [] h = absurd (omega arith)
+last-behind us (w ∷ ws) h = go us
+  where
+    go : (us : List Value) → last-number (us ++ w ∷ ws) ≡ last-number (w ∷ ws)
+    go [] = refl
+    go (u ∷ []) = refl
+    go (u ∷ v ∷ us) = go (v ∷ us)
+
+eight-more : (m : ℕ) → words m ++ words 8 ≡ words (m + 8)
+eight-more zero = refl
+eight-more (suc m) = rw suc-add (ap (λ (l : List Field). plain word ∷ l) (eight-more m))
+
+-- no words at all are passed at once
+pub none-before : (n : ℕ) (s : List ℕ) {c : Cursor} → n ≡ 8 → Inside s c → Ends (words (n - 8)) s (passed.Got c) (passed.Got c)
+unfolding fields-out
+none-before n s e i = let z : n - 8 ≡ 0 = omega arith in rw z (ends {vs = []} (goes refl i))
+
+pub flows-eight : {r : Kind} {f n : ℕ} → Is-kind r f → r ≡ kind.Flows n → 8 ≤ n
+flows-eight q e = rw e at (q .eight)
+
+pub eight-last : {s : List ℕ} {p : Passed} {at : ℕ} → There 8 s p at → Has-last s p at 28
+eight-last t = record { fits = λ w. omega (arith, t .fits w) }
+
 module _ (f : ℕ) (s : List ℕ) (c : Cursor) (k : ℕ) where
   each : {vs : List Value} {p : Passed} (body : Script) (l : List Field) → Then l s (passed.Got c) p vs → rest-of body s p (last-number vs) k ≡ counted k (follow (fields l (λ us. repeat (last-number us) body (λ a. give a))) s (place c))
   unfolding rest-of
@@ -129,8 +161,15 @@ module _ (f : ℕ) (s : List ℕ) (c : Cursor) (k : ℕ) where
       q ∙ ap (λ (m : ℕ). rest-of body s p m k) (sym (last-of n s at h)) ∙ each body (words n) t ∙ ap (λ (x : Script). counted k (follow x s (place c))) (sym r)
 
   module _ {r : Kind} (q : Is-kind r f) where
-    pub flows-arm : {n : ℕ} (at : ℕ) {p : Passed} {o : Out ℕ} → r ≡ kind.Flows n → Then (words n) s (passed.Got c) p (numbers n s at) → o ≡ rest-of (flow 8 8) s p (be4 s (at + (4 * n - 4))) k → o ≡ counted k (follow (opened (samples 8) f) s (place c))
-    flows-arm {n} at e t i = by-last n (flow 8 8) at (q .is ∙ ap held e) (omega (arith, q .some, ap words-of e)) t i
+    pub flows-arm : {n : ℕ} (at : ℕ) {v p : Passed} {o : Out ℕ} → r ≡ kind.Flows n → Ends (words (n - 8)) s (passed.Got c) v → Then (words 8) s v p (numbers 8 s at) → o ≡ rest-of (flow 8 8) s p (be4 s (at + 28)) k
+        → o ≡ counted k (follow (opened (samples 8) f) s (place c))
+    flows-arm {n} at {p = p} e (ends {vs} t) u i =
+        let y : n - 8 + 8 ≡ n = omega (arith, flows-eight q e) in
+        let h : words (n - 8) ++ words 8 ≡ words n = eight-more (n - 8) ∙ ap words y in
+        let z : last-number (vs ++ numbers 8 s at) ≡ be4 s (at + 28) = last-behind vs (numbers 8 s at) (omega arith) ∙ last-of 8 s at (omega arith) in
+        let w = each (flow 8 8) (words (n - 8) ++ words 8) (both t u) in
+        i ∙ ap (λ (m : ℕ). rest-of (flow 8 8) s p m k) (sym z) ∙ w ∙ ap (λ (l : List Field). counted k (follow (fields l (λ us. repeat (last-number us) (flow 8 8) (λ a. give a))) s (place c))) h
+        ∙ ap (λ (x : Script). counted k (follow x s (place c))) (sym (q .is ∙ ap held e))
 
     pub counters-arm : {n : ℕ} (at : ℕ) {p : Passed} {o : Out ℕ} → r ≡ kind.Counters n → Then (words n) s (passed.Got c) p (numbers n s at) → o ≡ rest-of counter s p (be4 s (at + (4 * n - 4))) k → o ≡ counted k (follow (opened (samples 8) f) s (place c))
     counters-arm {n} at e t i = by-last n counter at (q .is ∙ ap held e) (omega (arith, q .some, ap words-of e)) t i
@@ -151,6 +190,7 @@ module _ (s : List ℕ) (k : ℕ) {q : Passed} {d : Cursor} (e : q ≡ passed.Go
 
 pub ruleset sampling = (
   scan-inside,
+  scan-short,
   counter-thrift,
   sample-thrift,
   scan-on,
@@ -171,10 +211,14 @@ pub ruleset sampling = (
   behind-last,
   counted-scan,
   fields-counted,
+  rows-counted,
   flows-words,
   counters-words,
   kind-sub,
   has-last,
+  flows-eight,
+  eight-last,
+  within-ends,
   last-there,
   last-fits,
   flows-arm,

@@ -32,10 +32,17 @@ words-of (kind.Flows n) = n
 words-of (kind.Counters n) = n
 words-of kind.Raw = 1
 
+-- the words that stand behind all others before flow records
+abbrev pub eight-of : Kind → ℕ
+eight-of (kind.Flows n) = 8
+eight-of (kind.Counters n) = 0
+eight-of kind.Raw = 0
+
 pub record Is-kind (r : Kind) (f : ℕ) : Type 0 where
   pub is : opened (samples 8) f ≡ held r
   pub some : 1 ≤ words-of r
   pub few : words-of r ≤ 11
+  pub eight : eight-of r ≤ words-of r
 
 -- ---- what stands behind its words
 

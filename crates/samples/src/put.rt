@@ -8,42 +8,13 @@ ghost use Rattle.reading.specs.Answer.{from};
 ghost use Rattle.flows.specs.Written.{Ready, written, placed, filled, fills};
 use crate::fields::Kind;
 use crate::fields::kind_of;
-use flows::put::Descriptor;
+use flows::put::ABOVE;
 use flows::put::Pen;
 use flows::put::Written;
-use flows::put::put;
 use flows::put::put_flat_records;
 use flows::put::put_flow_records;
-use numbers::DataFormat;
+use flows::put::put_frame;
 use xdr::load;
-
-// One counter record.
-fn put_counter_record(s: &[u8], at: usize, store: &mut [u32], pen: Pen) -> Written
-    requires { ⌜ Ready (now s) (now store) pen (follow counter (now s) (from at)) ⌝ }
-    ensures { λ r. ⌜ written r (now (store .exit)) ≡ placed pen (follow counter (now (s .entry)) (from at)) (now (store .entry)) ⌝ }
-{
-    let format = load::be32(s, at);
-    let length = load::be32(s, at + 4);
-    let count = length as usize;
-    let start = at + 8;
-    let i = pen.next;
-    put(
-        store,
-        i,
-        Descriptor {
-            kind: 3,
-            format: DataFormat(format),
-            start: start as u32,
-            length: length,
-            parent: pen.parent,
-            depth: 1,
-        },
-    );
-    Written {
-        at: start + load::padded(count),
-        next: i + 1,
-    }
-}
 
 // n counter records in a row.
 fn put_counter_records(s: &[u8], at: usize, n: u32, store: &mut [u32], pen: Pen) -> Written
@@ -56,9 +27,11 @@ fn put_counter_records(s: &[u8], at: usize, n: u32, store: &mut [u32], pen: Pen)
     let mut next = pen.next;
     let mut rest = n;
     while 0 < rest {
-        let w = put_counter_record(
+        let w = put_frame(
             s,
             cur,
+            3,
+            1,
             &mut *store,
             Pen {
                 base: base,
@@ -88,19 +61,7 @@ fn put_sample_flows(s: &[u8], at: usize, n: u32, store: &mut [u32], pen: Pen) ->
     if flat.rest == 0 {
         return next;
     }
-    let w = put_flow_records(
-        s,
-        flat.at,
-        flat.rest,
-        8,
-        store,
-        Pen {
-            base: base,
-            parent: parent,
-            next: next,
-        },
-    );
-    w.next
+    put_flow_records(s, flat.at, flat.rest, 8, store, base, parent, next) % ABOVE
 }
 
 // What a sample of this format holds.
@@ -125,44 +86,28 @@ fn put_sample_data(s: &[u8], at: usize, format: u32, store: &mut [u32], pen: Pen
     }
 }
 
-// One sample: what it holds first, then its own descriptor before that.
+// One sample: its own descriptor, and what it holds behind that.
 fn put_sample(s: &[u8], at: usize, store: &mut [u32], pen: Pen) -> Written
     requires { ⌜ Ready (now s) (now store) pen (follow (sample 8) (now s) (from at)) ⌝ }
     ensures { λ r. ⌜ written r (now (store .exit)) ≡ placed pen (follow (sample 8) (now (s .entry)) (from at)) (now (store .entry)) ⌝ }
 {
     let format = load::be32(s, at);
-    let length = load::be32(s, at + 4);
-    let count = length as usize;
-    let start = at + 8;
-    let end = start + count;
-    let i = pen.next;
     let base = pen.base;
-    let me = base + i as u32;
+    let me = base + pen.next as u32;
+    let own = put_frame(s, at, 1, 0, &mut *store, pen);
     let next = put_sample_data(
-        &s[..end],
-        start,
+        s,
+        at + 8,
         format,
-        &mut *store,
+        store,
         Pen {
             base: base,
             parent: me,
-            next: i + 1,
-        },
-    );
-    put(
-        store,
-        i,
-        Descriptor {
-            kind: 1,
-            format: DataFormat(format),
-            start: start as u32,
-            length: length,
-            parent: pen.parent,
-            depth: 0,
+            next: own.next,
         },
     );
     Written {
-        at: start + load::padded(count),
+        at: own.at,
         next: next,
     }
 }

@@ -1,13 +1,13 @@
 // The first pass over samples: judged and counted, with nothing kept.
 ghost use mathlib.Core.Path.{_≡_};
-ghost use Prim.Native.Nat.{_+_};
+ghost use Prim.Native.Nat.{_+_, _-_, _≤_};
 ghost use Rattle.reading.specs.Bytes.{be4};
 ghost use Rattle.reading.specs.Cursor.{times, follow};
-ghost use Rattle.reading.specs.Layout.{opened, flow, counter, samples, sample};
+ghost use Rattle.reading.specs.Layout.{words, opened, flow, counter, samples, sample};
 ghost use Rattle.reading.proofs.Counts.{counted};
-ghost use Rattle.xdr.specs.Shown.{place};
+ghost use Rattle.xdr.specs.Shown.{place, Inside};
 ghost use Rattle.flows.specs.Scanned.{Scan, scanned-out};
-ghost use Rattle.flows.specs.Chain.{Within};
+ghost use Rattle.flows.specs.Chain.{Ends};
 ghost use Rattle.samples.specs.Held.{Counted, Has-last, rest-of};
 use crate::fields::Kind;
 use crate::fields::kind_of;
@@ -92,6 +92,20 @@ fn counters_behind(s: &[u8], row: Run, last: usize, count: usize) -> Scanned
     }
 }
 
+// Of n words, past those before the last eight: most samples have no more, and where a row is always as long it is passed by a number that
+// the compiler knows.
+fn before_eight(c: Cursor, s: &[u8], n: u32) -> Passed
+    requires { ⌜ Inside (now s) c ⌝ }
+    requires { ⌜ 8 ≤ n ⌝ }
+    ensures { λ r. ⌜ Ends (words (n - 8)) (now (s .entry)) (Passed.Got c) r ⌝ }
+{
+    if n == 8 {
+        return Passed::Got(c);
+    }
+    let row = next::words(Passed::Got(c), s, n - 8);
+    row.passed
+}
+
 // What a sample of this format holds.
 fn sample_data(s: &[u8], c: Cursor, format: u32, count: usize) -> Scanned
     requires { ⌜ Scan (now s) c count ⌝ }
@@ -99,8 +113,8 @@ fn sample_data(s: &[u8], c: Cursor, format: u32, count: usize) -> Scanned
 {
     match kind_of(format) {
         Kind::Flows(n) => {
-            let row = next::words(Passed::Got(c), s, n);
-            flows_behind(s, row, 4 * (n as usize) - 4, count)
+            let row = next::words(before_eight(c, s, n), s, 8);
+            flows_behind(s, row, 28, count)
         }
         Kind::Counters(n) => {
             let row = next::words(Passed::Got(c), s, n);

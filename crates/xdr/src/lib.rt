@@ -10,6 +10,9 @@ mod opaques;
 pub mod utf8;
 mod words;
 
+// The longest opaque, as the crate has it.
+pub const MAX_OPAQUE_SIZE: u32 = 104857600;
+
 // Where a reading stands: the next byte, counted from the input's first, and the items read so far.
 pub struct Cursor {
     pub at: usize,

@@ -4,13 +4,12 @@ ghost use Rattle.reading.specs.Script.{opaque, string};
 ghost use Rattle.reading.specs.Cursor.{read-item};
 ghost use Rattle.xdr.specs.Shown.{Inside, place, part-out};
 use crate::Cursor;
+use crate::MAX_OPAQUE_SIZE;
 use crate::Part;
 use crate::Span;
 use crate::Word;
 use crate::load;
 use crate::utf8;
-
-const MAX_OPAQUE_SIZE: u32 = 104857600;
 
 impl Cursor {
     pub fn read_opaque(self, s: &[u8]) -> Part

@@ -23,13 +23,13 @@ judge-run-spec =
     (tie.spec
     Inv-loop
     μ-loop
-    (λ c. search (at-start, running))  -- loop-holds run.rt:25:5
-    (λ c κs. search running)  -- judge-requires run.rt:26:13
-    (λ c. search running)  -- enum-known-scanned run.rt:29:27
-    (λ c. search running)  -- returns run.rt:31:21
-    (λ c. search running)  -- returns-2 run.rt:39:17
-    (λ c. search running)  -- enum-known-scanned-2 run.rt:41:26
-    (λ c. search running)  -- loop-less run.rt:25:5
-    (λ c. search running)  -- loop-again run.rt:25:5
-    (λ c. search running)  -- returns-3 run.rt:20:1
+    (λ c. search (at-start, running))  -- loop-holds run.rt:29:5
+    (λ c κs. search running)  -- judge-requires run.rt:30:15
+    (λ c. search running)  -- enum-known-r run.rt:31:27
+    (λ c. search running)  -- returns run.rt:33:21
+    (λ c. search running)  -- returns-2 run.rt:41:17
+    (λ c. search running)  -- enum-known-d run.rt:43:26
+    (λ c. search running)  -- loop-less run.rt:29:5
+    (λ c. search running)  -- loop-again run.rt:29:5
+    (λ c. search running)  -- returns-3 run.rt:23:1
     )

@@ -11,13 +11,9 @@ payload-spec =
     tie.close
     (tie.spec
     (λ c κs. search passing)  -- sampled-header-requires ahead.rt:62:14
-    (λ c κs. search passing)  -- words-requires ahead.rt:63:14
-    (λ c κs. search passing)  -- words-requires-2 ahead.rt:64:17
-    (λ c κs. search passing)  -- words-requires-3 ahead.rt:65:17
-    (λ c κs. search passing)  -- refusal-requires ahead.rt:66:27
-    (λ c. search passes-as)  -- returns ahead.rt:54:1
-    (λ c. search (passes-arm 3, passing))  -- returns-2 ahead.rt:54:1
-    (λ c. search (passes-arm 1001, passing))  -- returns-3 ahead.rt:54:1
-    (λ c. search (passes-arm 1011, passing))  -- returns-4 ahead.rt:54:1
-    (λ c. search passes-none)  -- returns-5 ahead.rt:54:1
+    (λ c κs. search passing)  -- words-requires ahead.rt:63:17
+    (λ c κs. search passing)  -- refusal-requires ahead.rt:64:27
+    (λ c. search passes-as)  -- returns ahead.rt:53:1
+    (λ c. search (passes-arm 1001, passing))  -- returns-2 ahead.rt:53:1
+    (λ c. search passes-none)  -- returns-3 ahead.rt:53:1
     )

@@ -124,6 +124,7 @@ pdus-μ-loop s n left count cur₀ found₀ rest₀ cur found rest = rest
 
 ruleset scanning = (
   scan.scan-inside,
+  scan.scan-short,
   scan.flow-thrift,
   scan.pdu-thrift,
   scan.scan-on,

@@ -4,9 +4,9 @@ use Rattle.reading.specs.Cursor.{times, follow}
 use Rattle.reading.specs.Layout.{counter}
 use Rattle.reading.specs.Answer.{from}
 use Rattle.flows.specs.Written as written
-use Rattle.flows.specs.Written.{Ready}
-use Rattle.flows.proofs.Placing.{a-pen, put-done}
-use Rattle.samples.proofs.Placed.{writing}
+use Rattle.flows.specs.Written.{Ready, a-pen}
+use Rattle.flows.proofs.Placing.{put-done}
+use Rattle.samples.proofs.Placed.{counter-turn, writing}
 use Rattle.samples.proofs.put.put_counter_records.Statement.{statement}
 use Rattle.samples.proofs.put.put_counter_records.Tie as tie
 
@@ -24,11 +24,11 @@ put-counter-records-spec =
     (tie.spec
     Inv-loop
     μ-loop
-    (λ c. search writing)  -- loop-holds put.rt:54:5
-    (λ c κs. search writing)  -- put-counter-record-requires put.rt:55:13
-    (λ c. search writing)  -- sub-rest put.rt:67:16
-    (λ c. search writing)  -- loop-less put.rt:54:5
-    (λ c. search writing)  -- loop-again put.rt:54:5
-    (λ c. search writing)  -- same-length put.rt:45:1
-    (λ c. put-done _ _ _ _ _ _ _ _ (c .before .loop .inv .2) (c .loop-test .left))  -- returns put.rt:45:1
+    (λ c. search writing)  -- loop-holds put.rt:28:5
+    (λ c κs. search writing)  -- put-frame-requires put.rt:29:13
+    (λ c. search writing)  -- sub-rest put.rt:43:16
+    (λ c. search writing)  -- loop-less put.rt:28:5
+    (λ c. counter-turn _ _ _ _ _ _ _ (c .before .before .before .before .before .loop .inv .1) (c .before .before .before .before .loop-test .taken) (c .before .before .put-frame .ensures) (c .before .before .before .before .before .loop .inv .0) (c .before .before .before .before .before .loop .inv .2))  -- loop-again put.rt:28:5
+    (λ c. search writing)  -- same-length put.rt:19:1
+    (λ c. put-done _ _ _ _ _ _ _ _ (c .before .loop .inv .2) (c .loop-test .left))  -- returns put.rt:19:1
     )

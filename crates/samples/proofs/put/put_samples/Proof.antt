@@ -4,8 +4,8 @@ use Rattle.reading.specs.Cursor.{times, follow}
 use Rattle.reading.specs.Layout.{sample}
 use Rattle.reading.specs.Answer.{from}
 use Rattle.flows.specs.Written as written
-use Rattle.flows.specs.Written.{Ready}
-use Rattle.flows.proofs.Placing.{a-pen, put-done}
+use Rattle.flows.specs.Written.{Ready, a-pen}
+use Rattle.flows.proofs.Placing.{put-done}
 use Rattle.samples.proofs.Placed.{writing}
 use Rattle.samples.proofs.put.put_samples.Statement.{statement}
 use Rattle.samples.proofs.put.put_samples.Tie as tie
