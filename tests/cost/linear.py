@@ -1,7 +1,7 @@
 """Cost by length: instructions, which callgrind counts, and times.
 
-A time over 1 MiB in one place comes from caches that 16 MiB and their store do not fit. So the bound is on times over the same memory,
-sixteen inputs of 1 MiB side by side against one of 16 MiB; the ratio with the caches' help is printed beside it."""
+The time for 16 MiB is held against that for 1 MiB in one place, which stays in the caches, and against 1 MiB of the same memory, as one of
+sixteen inputs side by side. A string is nothing but bytes to look at, at a speed that the memory gives: it is judged by the same memory."""
 import os
 import re
 import struct
@@ -10,7 +10,7 @@ from concurrent.futures import ThreadPoolExecutor
 from statistics import median
 
 import build
-from long import LISTS, LONG
+from long import LISTS, LONG, STRINGS
 from shapes import KINDS, with_record
 
 MIB = 1 << 20
@@ -42,11 +42,12 @@ def times(command, call, code, small, big):
     return [tuple(map(float, line.split())) for line in rounds]
 
 
-def timed_figure(time, call, code, shape):
+def timed_figure(time, name, call, code, shape):
     rounds = times(time, call, code, shape(MIB), shape(16 * MIB))
-    in_time = median(big / side for big, side, _ in rounds)
-    cached = median(big / in_place for big, _, in_place in rounds)
-    return in_time <= MOST, f", {in_time:.2f} in time ({cached:.2f} against 1 MiB in the caches)"
+    in_place = median(big / place for big, _, place in rounds)
+    side_by_side = median(big / side for big, side, _ in rounds)
+    met = side_by_side <= MOST and (name in STRINGS or in_place <= MOST)
+    return met, f", {in_place:.2f} in time ({side_by_side:.2f} over the same memory)"
 
 
 def long_figures(count, pool, timed):
@@ -57,7 +58,7 @@ def long_figures(count, pool, timed):
 
     time = build.program("time")
     for (name, call, code, shape), ratio_found in zip(LONG, list(pool.map(ratio, LONG))):
-        met, said = timed_figure(time, call, code, shape) if timed else (True, "")
+        met, said = timed_figure(time, name, call, code, shape) if timed else (True, "")
         text = f"{ratio_found:.2f} in instructions{said}, at most {MOST}"
         yield ratio_found <= MOST and met, f"16 MiB over 1 MiB, {name}: {text}"
 

@@ -71,6 +71,9 @@ LONG = [
     ("a run of datagrams of one sample", "run", 0, filled(datagrams, P9)),
 ]
 
+# of these, the ones that are a single string
+STRINGS = ("a string of ASCII", "a string of two-byte characters")
+
 # for each place where a layout has a list: a datagram whose list has so many words
 LISTS = [
     ("1006, the first", lambda n: with_record(1006, words(0, n) + bytes(4 * n) + words(0))),

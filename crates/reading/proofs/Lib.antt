@@ -1,4 +1,5 @@
 pub mod Utf8
+pub mod Utf8Bytes
 pub mod Utf8Places
 pub mod Items
 pub mod Opaques

@@ -75,7 +75,7 @@ module _ (lo hi a : ℕ) where
   unfolding among
   among-from h = simp (le-leb _ _ h)
 
-  among-above : hi < a → among lo hi a ≡ false
+  pub among-above : hi < a → among lo hi a ≡ false
   unfolding among
   among-above h = go (leb lo a)
     where
@@ -125,7 +125,7 @@ below-3 : (a b c : ℕ) → a < 0xe0 → utf8-3 a b c ≡ false
 below-3 a b c h =
     simp (among-below 0xe0 0xe0 a h, among-below 0xe1 0xec a (omega arith), among-below 0xed 0xed a (omega arith), among-below 0xee 0xef a (omega arith))
 
-above-3 : (a b c : ℕ) → 0xef < a → utf8-3 a b c ≡ false
+pub above-3 : (a b c : ℕ) → 0xef < a → utf8-3 a b c ≡ false
 above-3 a b c h =
     simp (among-above 0xe0 0xe0 a (omega arith), among-above 0xe1 0xec a (omega arith), among-above 0xed 0xed a (omega arith), among-above 0xee 0xef a h)
 

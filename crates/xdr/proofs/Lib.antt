@@ -7,3 +7,4 @@ pub mod Fixed
 pub mod Rows
 pub mod Signed
 pub mod Ends
+pub mod Texts

@@ -4,6 +4,8 @@ ghost use lib.ListN.{length, drop};
 ghost use lib.Dec.{leb};
 ghost use Rattle.reading.specs.Utf8.{among, tail, utf8-2, utf8-3, utf8-4, utf8};
 ghost use Rattle.reading.proofs.Utf8.{plain, width};
+ghost use Rattle.reading.proofs.Utf8Bytes.{begins, awaited, second, fits, all-fit};
+ghost use Rattle.xdr.specs.Text.{Last-begins, Same-text};
 
 // Whether b is one of the numbers from lo to hi.
 fn among(lo: u8, hi: u8, b: u8) -> bool
@@ -153,6 +155,118 @@ fn past_run(s: &[u8], at: usize) -> usize
     past_bytes(s, past_blocks(s, wide, 8))
 }
 
+// Whether d begins a character.
+fn begins(d: u8) -> bool
+    ensures { λ r. ⌜ r ≡ begins d ⌝ }
+{
+    if among(0x00, 0x7f, d) {
+        return true;
+    }
+    among(0xc2, 0xf4, d)
+}
+
+// Whether a byte is awaited behind these three, by a character that began with one of them.
+fn awaited(a: u8, b: u8, c: u8) -> bool
+    ensures { λ r. ⌜ r ≡ awaited a b c ⌝ }
+{
+    if among(0xc2, 0xf4, c) {
+        return true;
+    }
+    if among(0xe0, 0xf4, b) {
+        return true;
+    }
+    among(0xf0, 0xf4, a)
+}
+
+// Whether d may stand behind c where it is awaited: some lead bytes have rows of their own for the second.
+fn second(c: u8, d: u8) -> bool
+    ensures { λ r. ⌜ r ≡ second c d ⌝ }
+{
+    if among(0xe0, 0xe0, c) {
+        return among(0xa0, 0xbf, d);
+    }
+    if among(0xed, 0xed, c) {
+        return among(0x80, 0x9f, d);
+    }
+    if among(0xf0, 0xf0, c) {
+        return among(0x90, 0xbf, d);
+    }
+    if among(0xf4, 0xf4, c) {
+        return among(0x80, 0x8f, d);
+    }
+    tail(d)
+}
+
+// Whether d fits the three bytes before it.
+fn fits(a: u8, b: u8, c: u8, d: u8) -> bool
+    ensures { λ r. ⌜ r ≡ fits a b c d ⌝ }
+{
+    if awaited(a, b, c) {
+        return second(c, d);
+    }
+    begins(d)
+}
+
+// Whether each of the n bytes at `at` fits those before it: no branch for a byte, so that they are tested at once.
+fn window(s: &[u8], at: usize, n: usize) -> bool
+    requires { ⌜ 3 ≤ at ⌝ }
+    requires { ⌜ at + n ≤ length (now s) ⌝ }
+    ensures { λ r. ⌜ r ≡ all-fit (now (s .entry)) at n ⌝ }
+{
+    let mut all = true;
+    let mut i = 0;
+    while i < n {
+        let j = at + i;
+        all = all & fits(s[j - 3], s[j - 2], s[j - 1], s[j]);
+        i += 1;
+    }
+    all
+}
+
+// Where the last character of these bytes begins; or their own first byte.
+fn back(s: &[u8], low: usize, high: usize) -> usize
+    requires { ⌜ low < high ⌝ }
+    requires { ⌜ high ≤ length (now s) ⌝ }
+    ensures { λ r. ⌜ Last-begins (now (s .entry)) low high r ⌝ }
+{
+    let mut i = high - 1;
+    while low < i {
+        if tail(s[i]) {
+            i -= 1;
+        } else {
+            return i;
+        }
+    }
+    i
+}
+
+// Past windows of n bytes, from the first byte of a character to that of another.
+fn past_windows(s: &[u8], at: usize, n: usize) -> usize
+    requires { ⌜ at < length (now s) ⌝ }
+    requires { ⌜ 0 < n ⌝ }
+    ensures { λ r. ⌜ Same-text (now (s .entry)) at r ⌝ }
+{
+    if at < 3 {
+        return at;
+    }
+    if tail(s[at]) {
+        return at;
+    }
+    let mut i = at;
+    while n <= s.len() - i {
+        if window(s, i, n) {
+            let j = back(s, i, i + n);
+            if j <= i {
+                return i;
+            }
+            i = j;
+        } else {
+            return i;
+        }
+    }
+    i
+}
+
 // Whether the bytes are well-formed UTF-8, as RFC 3629's table has it.
 pub fn is_utf8(s: &[u8]) -> bool
     ensures { λ r. ⌜ r ≡ utf8 (now (s .entry)) ⌝ }
@@ -163,11 +277,12 @@ pub fn is_utf8(s: &[u8]) -> bool
             at = past_run(s, at);
             continue;
         }
-        let n = sequence(s, at);
+        let from = past_windows(s, at, 64);
+        let n = sequence(s, from);
         if n == 0 {
             return false;
         }
-        at += n;
+        at = from + n;
     }
     true
 }

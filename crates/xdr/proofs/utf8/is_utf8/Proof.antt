@@ -5,7 +5,8 @@ use native.Mathlib.Omega.{arith}
 use borrow.Author.Needs.{needs}
 use lib.ListN.{length, drop}
 use Rattle.reading.specs.Utf8.{utf8}
-use Rattle.reading.proofs.Utf8Places.{width-room, all-passed, run-passed, run-room, run-less, sequence-passed, sequence-room, none-there}
+use Rattle.reading.proofs.Utf8Places.{all-passed, run-passed, run-room, run-less, sequence-passed, none-there}
+use Rattle.xdr.proofs.Texts.{text-same, text-inside, text-room, text-fits, text-less}
 use Rattle.xdr.proofs.utf8.is_utf8.Statement.{statement}
 use Rattle.xdr.proofs.utf8.is_utf8.Tie as tie
 
@@ -15,7 +16,7 @@ Inv-loop s at₀ at = (at ≤ length s) × (utf8 (drop at s) ≡ utf8 s)
 abbrev μ-loop : tie.MeasureT-loop
 μ-loop s at₀ at = length s - at
 
-ruleset passing = (all-passed, run-passed, run-room, run-less, sequence-passed, sequence-room, none-there, needs)
+ruleset passing = (all-passed, run-passed, run-room, run-less, sequence-passed, none-there, text-same, text-inside, text-room, text-fits, text-less, needs)
 
 pub is-utf8-spec : {M : Type 1} → statement M
 is-utf8-spec =
@@ -23,16 +24,17 @@ is-utf8-spec =
     (tie.spec
     Inv-loop
     μ-loop
-    (λ c. search passing)  -- loop-holds
-    (λ c. search passing)  -- shared-slice-read-among
-    (λ c κs. search passing)  -- among-requires
-    (λ c κs. search passing)  -- past-run-requires
-    (λ c. search passing)  -- loop-less
-    (λ c. search passing)  -- loop-again
-    (λ c κs. search passing)  -- sequence-requires
-    (λ c. search passing)  -- returns
-    (λ c. let p = c .before .before .before .before .before .before in omega (arith, width-room (p .before .before .args .s .now) (p .loop .at)))  -- add-at
-    (λ c. search passing)  -- loop-less-2
-    (λ c. search passing)  -- loop-again-2
-    (λ c. search passing)  -- returns-2
+    (λ c. search passing)  -- loop-holds utf8.rt:275:5
+    (λ c. search passing)  -- shared-slice-read-among utf8.rt:276:30
+    (λ c κs. search passing)  -- among-requires utf8.rt:276:12
+    (λ c κs. search passing)  -- past-run-requires utf8.rt:277:13
+    (λ c. search passing)  -- loop-less utf8.rt:275:5
+    (λ c. search passing)  -- loop-again utf8.rt:275:5
+    (λ c κs. search passing)  -- past-windows-requires utf8.rt:280:13
+    (λ c κs. search passing)  -- sequence-requires utf8.rt:281:13
+    (λ c. search passing)  -- returns utf8.rt:283:13
+    (λ c. search passing)  -- add-at utf8.rt:285:14
+    (λ c. search passing)  -- loop-less-2 utf8.rt:275:5
+    (λ c. search passing)  -- loop-again-2 utf8.rt:275:5
+    (λ c. search passing)  -- returns-2 utf8.rt:271:1
     )
