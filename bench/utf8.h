@@ -1,4 +1,5 @@
-/* Whether bytes are well-formed UTF-8, as RFC 3629's table has it: plain ASCII by blocks, and then the rows of the table, each by masks. */
+/* Whether bytes are well-formed UTF-8, as RFC 3629's table has it: plain ASCII by blocks; the rest by windows, in which each byte is held
+   to the three before it, so that the compiler tests them at once; and what is left by the rows of the table, each by masks. */
 #ifndef UTF8_H
 #define UTF8_H
 
@@ -64,8 +65,45 @@ static inline bool utf8_rest(uint64_t rest) {
     return true;
 }
 
+static inline uint8_t utf8_among(uint8_t low, uint8_t high, uint8_t byte) {
+    return (uint8_t)(byte - low) <= high - low;
+}
+
+/* Whether d fits the bytes a, b and c before it: it is awaited, and may follow c, or it begins a character. */
+static inline uint8_t utf8_fits(uint8_t a, uint8_t b, uint8_t c, uint8_t d) {
+    uint8_t awaited = utf8_among(0xc2, 0xf4, c) | utf8_among(0xe0, 0xf4, b) | utf8_among(0xf0, 0xf4, a);
+    uint8_t second = ((c != 0xe0) | (d >= 0xa0)) & ((c != 0xed) | (d <= 0x9f)) & ((c != 0xf0) | (d >= 0x90)) & ((c != 0xf4) | (d <= 0x8f));
+    return (utf8_among(0x80, 0xbf, d) == awaited) & second & (d != 0xc0) & (d != 0xc1) & (d <= 0xf4);
+}
+
+static inline bool utf8_is_tail(uint8_t byte) {
+    return (byte & 0xc0) == 0x80;
+}
+
+enum { UTF8_WINDOW = 64 };
+
+/* Past windows, from the first byte of a character to that of another. Three bytes are before s. */
+static inline const uint8_t *utf8_past_windows(const uint8_t *s, const uint8_t *end) {
+    if (utf8_is_tail(*s))
+        return s;
+    while (end - s >= UTF8_WINDOW) {
+        uint8_t all = 1;
+        for (int i = 0; i < UTF8_WINDOW; i++)
+            all &= utf8_fits(s[i - 3], s[i - 2], s[i - 1], s[i]);
+        if (!all)
+            break;
+        const uint8_t *last = s + UTF8_WINDOW - 1;
+        while (last > s && utf8_is_tail(*last))
+            last--;
+        if (last == s)
+            break;
+        s = last;
+    }
+    return s;
+}
+
 static __attribute__((noinline)) bool is_utf8(const uint8_t *s, size_t n) {
-    const uint8_t *end = s + n;
+    const uint8_t *begin = s, *end = s + n;
     while (end - s >= 8) {
         uint64_t high = utf8_load8(s) & UTF8_HIGH;
         if (high == 0) {
@@ -74,6 +112,8 @@ static __attribute__((noinline)) bool is_utf8(const uint8_t *s, size_t n) {
             continue;
         }
         s += __builtin_ctzll(high) / 8;
+        if (s - begin >= 3)
+            s = utf8_past_windows(s, end);
         if (end - s < 4)
             break;
         do {
@@ -86,7 +126,7 @@ static __attribute__((noinline)) bool is_utf8(const uint8_t *s, size_t n) {
                 s += 4;
             else
                 return false;
-        } while (end - s >= 4 && *s >= 0x80);
+        } while (end - s >= 4 && *s >= 0x80 && (s - begin < 3 || end - s < UTF8_WINDOW));
     }
     return utf8_rest(utf8_load_rest(s, (size_t)(end - s)));
 }

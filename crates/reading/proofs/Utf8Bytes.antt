@@ -5,7 +5,7 @@ use mathlib.Core.Bool.{Bool, true, false}
 use mathlib.Core.List.{List}
 use native.Mathlib.Omega.{arith}
 use native.Mathlib.Numerals.{add-one}
-use borrow.Author.Tests.{leb-true, leb-false, le-leb}
+use borrow.Author.Tests.{leb-true, leb-false, le-leb, lt-leb}
 use lib.Dec.{leb}
 use lib.ListN.{length, drop, getD}
 use lib.Seq.{drop-drop}
@@ -18,14 +18,16 @@ abbrev pub begins : ℕ → Bool
 begins d = pick (utf8-1 d) true (among 0xc2 0xf4 d)
 
 abbrev pub awaited : ℕ → ℕ → ℕ → Bool
-awaited a b c = pick (among 0xc2 0xf4 c) true (pick (among 0xe0 0xf4 b) true (among 0xf0 0xf4 a))
+awaited a b c = pick (leb 0xc2 c) true (pick (leb 0xe0 b) true (leb 0xf0 a))
+
+abbrev pub least : ℕ → ℕ
+least c = pick (among 0xe0 0xe0 c) 0xa0 (pick (among 0xf0 0xf0 c) 0x90 0x80)
+
+abbrev pub most : ℕ → ℕ
+most c = pick (among 0xed 0xed c) 0x9f (pick (among 0xf4 0xf4 c) 0x8f 0xbf)
 
 abbrev pub second : ℕ → ℕ → Bool
-second c d =
-    pick (among 0xe0 0xe0 c) (among 0xa0 0xbf d)
-    (pick (among 0xed 0xed c) (among 0x80 0x9f d)
-    (pick (among 0xf0 0xf0 c) (among 0x90 0xbf d)
-    (pick (among 0xf4 0xf4 c) (among 0x80 0x8f d) (tail d))))
+second c d = among (least c) (most c) d
 
 abbrev pub fits : ℕ → ℕ → ℕ → ℕ → Bool
 fits a b c d = pick (awaited a b c) (second c d) (begins d)
@@ -69,17 +71,6 @@ module _ (lo hi a : ℕ) where
   among-in : lo ≤ a → a ≤ hi → among lo hi a ≡ true
   among-in h k = sym (among-from lo hi a h) ∙ le-leb a hi k
 
-  among-out : among lo hi a ≡ false → lo ≤ a → hi < a
-  among-out e h = leb-false a hi (among-from lo hi a h ∙ e)
-
-  -- a narrower one
-  narrower : (more : ℕ) → lo ≤ more → among lo hi a ≡ false → among more hi a ≡ false
-  narrower more l e = go (among more hi a) refl
-    where
-      go : (x : Bool) → among more hi a ≡ x → x ≡ false
-      go false f = refl
-      go true f = let w = among-bounds more hi a f in no (sym (among-in (omega arith) (w .1)) ∙ e)
-
 split-at : {A : Type 0} (m n : ℕ) → (m ≤ n → A) → (n < m → A) → A
 split-at {A} m n f g = go (leb m n) refl
   where
@@ -90,9 +81,6 @@ split-at {A} m n f g = go (leb m n) refl
 tail-high : (d : ℕ) → tail d ≡ true → (0x80 ≤ d) × (d ≤ 0xbf)
 tail-high d h = among-bounds 0x80 0xbf d h
 
-no-lead : (d : ℕ) → tail d ≡ true → among 0xc2 0xf4 d ≡ false
-no-lead d h = among-below 0xc2 0xf4 d (omega (arith, tail-high d h .1))
-
 begins-no-tail : (d : ℕ) → begins d ≡ true → tail d ≡ false
 unfolding pick
 begins-no-tail d h = go (utf8-1 d) refl h
@@ -101,34 +89,54 @@ begins-no-tail d h = go (utf8-1 d) refl h
     go true e h = let w = among-bounds 0x00 0x7f d e in among-below 0x80 0xbf d (omega arith)
     go false e h = let w = among-bounds 0xc2 0xf4 d h in among-above 0x80 0xbf d (omega arith)
 
-second-tail : (c d : ℕ) → second c d ≡ true → tail d ≡ true
+begins-plain : (d : ℕ) → begins d ≡ true → d < 0xc2 → utf8-1 d ≡ true
 unfolding pick
-second-tail c d h = go (among 0xe0 0xe0 c) (among 0xed 0xed c) (among 0xf0 0xf0 c) (among 0xf4 0xf4 c) h
+begins-plain d h l = go (utf8-1 d) (rw (among-below 0xc2 0xf4 d l) at h)
   where
-    within : (lo hi : ℕ) → 0x80 ≤ lo → hi ≤ 0xbf → among lo hi d ≡ true → tail d ≡ true
-    within lo hi i j k = let w = among-bounds lo hi d k in among-in 0x80 0xbf d (omega arith) (omega arith)
+    go : (x : Bool) → pick x true false ≡ true → x ≡ true
+    go true k = refl
+    go false k = k
 
-    go : (x y z w : Bool) → pick x (among 0xa0 0xbf d) (pick y (among 0x80 0x9f d) (pick z (among 0x90 0xbf d) (pick w (among 0x80 0x8f d) (tail d)))) ≡ true → tail d ≡ true
-    go true y z w h = within 0xa0 0xbf (omega arith) (omega arith) h
-    go false true z w h = within 0x80 0x9f (omega arith) (omega arith) h
-    go false false true w h = within 0x90 0xbf (omega arith) (omega arith) h
-    go false false false true h = within 0x80 0x8f (omega arith) (omega arith) h
-    go false false false false h = h
+begins-lead : (d : ℕ) → begins d ≡ true → d ≤ 0xf4
+unfolding pick
+begins-lead d h = go (utf8-1 d) refl h
+  where
+    go : (x : Bool) → utf8-1 d ≡ x → pick x true (among 0xc2 0xf4 d) ≡ true → d ≤ 0xf4
+    go true e h = omega (arith, among-bounds 0x00 0x7f d e .1)
+    go false e h = among-bounds 0xc2 0xf4 d h .1
+
+at-least : (x y : Bool) → 0x80 ≤ pick x 0xa0 (pick y 0x90 0x80)
+unfolding pick
+at-least true y = omega arith
+at-least false true = omega arith
+at-least false false = omega arith
+
+at-most : (x y : Bool) → pick x 0x9f (pick y 0x8f 0xbf) ≤ 0xbf
+unfolding pick
+at-most true y = omega arith
+at-most false true = omega arith
+at-most false false = omega arith
+
+second-tail : (c d : ℕ) → second c d ≡ true → tail d ≡ true
+second-tail c d h =
+    let w = among-bounds (least c) (most c) d h in
+    among-in 0x80 0xbf d (omega (arith, at-least (among 0xe0 0xe0 c) (among 0xf0 0xf0 c), w .0)) (omega (arith, at-most (among 0xed 0xed c) (among 0xf4 0xf4 c), w .1))
 
 -- ---- what a byte that fits says of those before it
 module _ (a b c d : ℕ) (h : fits a b c d ≡ true) where
-  fit-begin : tail d ≡ false → (among 0xc2 0xf4 c ≡ false) × (among 0xe0 0xf4 b ≡ false) × (among 0xf0 0xf4 a ≡ false) × (begins d ≡ true)
+  fit-begin : tail d ≡ false → (c < 0xc2) × (b < 0xe0) × (a < 0xf0) × (begins d ≡ true)
   unfolding pick
-  fit-begin t = go (among 0xc2 0xf4 c) (among 0xe0 0xf4 b) (among 0xf0 0xf4 a) h
+  fit-begin t = go (leb 0xc2 c) (leb 0xe0 b) (leb 0xf0 a) refl refl refl h
     where
       clash : {A : Type 0} → second c d ≡ true → A
       clash k = no (sym (second-tail c d k) ∙ t)
 
-      go : (x y z : Bool) → pick (pick x true (pick y true z)) (second c d) (begins d) ≡ true → (x ≡ false) × (y ≡ false) × (z ≡ false) × (begins d ≡ true)
-      go true y z k = clash k
-      go false true z k = clash k
-      go false false true k = clash k
-      go false false false k = (refl, refl, refl, k)
+      go : (x y z : Bool) → leb 0xc2 c ≡ x → leb 0xe0 b ≡ y → leb 0xf0 a ≡ z → pick (pick x true (pick y true z)) (second c d) (begins d) ≡ true
+          → (c < 0xc2) × (b < 0xe0) × (a < 0xf0) × (begins d ≡ true)
+      go true y z e f g k = clash k
+      go false true z e f g k = clash k
+      go false false true e f g k = clash k
+      go false false false e f g k = (leb-false 0xc2 c e, leb-false 0xe0 b f, leb-false 0xf0 a g, k)
 
   fit-tail : tail d ≡ true → (awaited a b c ≡ true) × (second c d ≡ true)
   unfolding pick
@@ -140,47 +148,48 @@ module _ (a b c d : ℕ) (h : fits a b c d ≡ true) where
 
 -- which of the three awaits it
 module _ (a b c : ℕ) (h : awaited a b c ≡ true) where
-  by-last : among 0xe0 0xf4 b ≡ false → among 0xf0 0xf4 a ≡ false → among 0xc2 0xf4 c ≡ true
+  by-last : b < 0xe0 → a < 0xf0 → 0xc2 ≤ c
   unfolding pick
-  by-last e f = go (among 0xc2 0xf4 c) (rw (e, f) at h)
+  by-last e f = leb-true 0xc2 c (go (leb 0xc2 c) (rw (lt-leb 0xe0 b e, lt-leb 0xf0 a f) at h))
     where
       go : (x : Bool) → pick x true (pick false true false) ≡ true → x ≡ true
       go true k = refl
       go false k = k
 
-  by-middle : among 0xc2 0xf4 c ≡ false → among 0xf0 0xf4 a ≡ false → among 0xe0 0xf4 b ≡ true
+  by-middle : c < 0xc2 → a < 0xf0 → 0xe0 ≤ b
   unfolding pick
-  by-middle e f = go (among 0xe0 0xf4 b) (rw (e, f) at h)
+  by-middle e f = leb-true 0xe0 b (go (leb 0xe0 b) (rw (lt-leb 0xc2 c e, lt-leb 0xf0 a f) at h))
     where
       go : (x : Bool) → pick false true (pick x true false) ≡ true → x ≡ true
       go true k = refl
       go false k = k
 
-  by-first : among 0xc2 0xf4 c ≡ false → among 0xe0 0xf4 b ≡ false → among 0xf0 0xf4 a ≡ true
+  by-first : c < 0xc2 → b < 0xe0 → 0xf0 ≤ a
   unfolding pick
-  by-first e f = rw (e, f) at h
+  by-first e f = leb-true 0xf0 a (rw (lt-leb 0xc2 c e, lt-leb 0xe0 b f) at h)
 
 -- ---- rows of the table, by the second byte
 three-fit : (x y z : ℕ) → 0xe0 ≤ x → x ≤ 0xef → second x y ≡ true → tail z ≡ true → utf8-3 x y z ≡ true
 unfolding pick
 three-fit x y z a b h t =
+    let p = among-below 0xf0 0xf0 x (omega arith) in
+    let q = among-below 0xf4 0xf4 x (omega arith) in
     split-at x 0xe0
-    (λ i. let e = among-in 0xe0 0xe0 x a i in let k : among 0xa0 0xbf y ≡ true = rw e at h in rows-3 x y z ∙ rw (e, k, t))
-    (λ i. split-at x 0xed (λ j. split-at x 0xec
+    (λ i.
+    let e = among-in 0xe0 0xe0 x a i in
+    let k : among 0xa0 0xbf y ≡ true = rw (e, among-below 0xed 0xed x (omega arith), q) at h in
+    rows-3 x y z ∙ rw (e, k, t))
+    (λ i. let e = among-above 0xe0 0xe0 x i in split-at x 0xed (λ j. split-at x 0xec
     (λ m.
-    let e = among-above 0xe0 0xe0 x i in
-    let f = among-below 0xed 0xed x (omega arith) in
-    let k : tail y ≡ true = rw (e, f, among-below 0xf0 0xf0 x (omega arith), among-below 0xf4 0xf4 x (omega arith)) at h in
+    let k : tail y ≡ true = rw (e, p, among-below 0xed 0xed x (omega arith), q) at h in
     rows-3 x y z ∙ rw (e, among-in 0xe1 0xec x (omega arith) m, k, t))
     (λ m.
-    let e = among-above 0xe0 0xe0 x i in
     let f = among-in 0xed 0xed x (omega arith) j in
-    let k : among 0x80 0x9f y ≡ true = rw (e, f) at h in
+    let k : among 0x80 0x9f y ≡ true = rw (e, p, f) at h in
     rows-3 x y z ∙ rw (e, among-above 0xe1 0xec x m, f, k, t)))
     (λ j.
-    let e = among-above 0xe0 0xe0 x i in
     let f = among-above 0xed 0xed x j in
-    let k : tail y ≡ true = rw (e, f, among-below 0xf0 0xf0 x (omega arith), among-below 0xf4 0xf4 x (omega arith)) at h in
+    let k : tail y ≡ true = rw (e, p, f, q) at h in
     rows-3 x y z ∙ rw (e, among-above 0xe1 0xec x (omega arith), f, among-in 0xee 0xef x (omega arith) b, k, t)))
 
 four-fit : (x y z w : ℕ) → 0xf0 ≤ x → x ≤ 0xf4 → second x y ≡ true → tail z ≡ true → tail w ≡ true → utf8-4 x y z w ≡ true
@@ -189,28 +198,18 @@ four-fit x y z w a b h t u =
     let e = among-above 0xe0 0xe0 x (omega arith) in
     let f = among-above 0xed 0xed x (omega arith) in
     split-at x 0xf0
-    (λ i. let g = among-in 0xf0 0xf0 x a i in let k : among 0x90 0xbf y ≡ true = rw (e, f, g) at h in rows-4 x y z w ∙ rw (g, k, t, u))
-    (λ i. split-at x 0xf3
+    (λ i.
+    let g = among-in 0xf0 0xf0 x a i in
+    let k : among 0x90 0xbf y ≡ true = rw (e, g, f, among-below 0xf4 0xf4 x (omega arith)) at h in
+    rows-4 x y z w ∙ rw (g, k, t, u))
+    (λ i. let g = among-above 0xf0 0xf0 x i in split-at x 0xf3
     (λ j.
-    let g = among-above 0xf0 0xf0 x i in
-    let k : tail y ≡ true = rw (e, f, g, among-below 0xf4 0xf4 x (omega arith)) at h in
+    let k : tail y ≡ true = rw (e, g, f, among-below 0xf4 0xf4 x (omega arith)) at h in
     rows-4 x y z w ∙ rw (g, among-in 0xf1 0xf3 x (omega arith) j, k, t, u))
     (λ j.
-    let g = among-above 0xf0 0xf0 x i in
     let m = among-in 0xf4 0xf4 x (omega arith) b in
-    let k : among 0x80 0x8f y ≡ true = rw (e, f, g, m) at h in
+    let k : among 0x80 0x8f y ≡ true = rw (e, g, f, m) at h in
     rows-4 x y z w ∙ rw (g, among-above 0xf1 0xf3 x j, m, k, t, u)))
-
-begins-plain : (d : ℕ) → begins d ≡ true → among 0xc2 0xf4 d ≡ false → utf8-1 d ≡ true
-unfolding pick
-begins-plain d h e = go (utf8-1 d) (rw e at h)
-  where
-    go : (x : Bool) → pick x true false ≡ true → x ≡ true
-    go true k = refl
-    go false k = k
-
-under : (lo hi x : ℕ) → among lo hi x ≡ false → x ≤ hi → x < lo
-under lo hi x e h = split-at lo x (λ k. absurd (omega (arith, among-out lo hi x e k))) (λ k. k)
 
 -- ways through the tests of a width
 module _ {A : Type 0} (u v : A) {y : Bool} {r : A} where
@@ -238,26 +237,26 @@ module _ (s : List ℕ) (low n : ℕ) (all : all-fit s low n ≡ true) (three : 
 
   -- one character at p, by its bytes
   module _ (p : ℕ) (from : low ≤ p) (t : tail (b p) ≡ false) where
-    lead : p < low + n → (among 0xc2 0xf4 (b (p - 1)) ≡ false) × (among 0xe0 0xf4 (b (p - 2)) ≡ false) × (among 0xf0 0xf4 (b (p - 3)) ≡ false) × (begins (b p) ≡ true)
+    lead : p < low + n → (b (p - 1) < 0xc2) × (b (p - 2) < 0xe0) × (b (p - 3) < 0xf0) × (begins (b p) ≡ true)
     lead l = fit-begin (b (p - 3)) (b (p - 2)) (b (p - 1)) (b p) (fit (p - 3) (p - 2) (p - 1) p (omega arith) (omega arith) (omega arith) from l) t
 
-    -- the byte behind it is awaited
-    first-tail : p + 1 < low + n → tail (b (p + 1)) ≡ true → (among 0xc2 0xf4 (b p) ≡ true) × (second (b p) (b (p + 1)) ≡ true)
+    -- the bytes behind it that are awaited
+    first-tail : p + 1 < low + n → tail (b (p + 1)) ≡ true → (0xc2 ≤ b p) × (second (b p) (b (p + 1)) ≡ true)
     first-tail l u =
         let f = lead (omega arith) in
         let g = fit-tail (b (p - 2)) (b (p - 1)) (b p) (b (p + 1)) (fit (p - 2) (p - 1) p (p + 1) (omega arith) (omega arith) (omega arith) (omega arith) l) u in
-        (by-last (b (p - 2)) (b (p - 1)) (b p) (g .0) (narrower 0xc2 0xf4 (b (p - 1)) 0xe0 (omega arith) (f .0)) (narrower 0xe0 0xf4 (b (p - 2)) 0xf0 (omega arith) (f .1)), g .1)
+        (by-last (b (p - 2)) (b (p - 1)) (b p) (g .0) (omega (arith, f .0)) (omega (arith, f .1)), g .1)
 
-    second-tail-of : p + 2 < low + n → tail (b (p + 1)) ≡ true → tail (b (p + 2)) ≡ true → among 0xe0 0xf4 (b p) ≡ true
-    second-tail-of l u v =
+    next-tail : p + 2 < low + n → tail (b (p + 1)) ≡ true → tail (b (p + 2)) ≡ true → 0xe0 ≤ b p
+    next-tail l u v =
         let f = lead (omega arith) in
         let g = fit-tail (b (p - 1)) (b p) (b (p + 1)) (b (p + 2)) (fit (p - 1) p (p + 1) (p + 2) (omega arith) (omega arith) (omega arith) (omega arith) l) v in
-        by-middle (b (p - 1)) (b p) (b (p + 1)) (g .0) (no-lead (b (p + 1)) u) (narrower 0xc2 0xf4 (b (p - 1)) 0xf0 (omega arith) (f .0))
+        by-middle (b (p - 1)) (b p) (b (p + 1)) (g .0) (omega (arith, tail-high (b (p + 1)) u .1)) (omega (arith, f .0))
 
-    third-tail-of : p + 3 < low + n → tail (b (p + 1)) ≡ true → tail (b (p + 2)) ≡ true → tail (b (p + 3)) ≡ true → among 0xf0 0xf4 (b p) ≡ true
-    third-tail-of l u v w =
+    last-tail : p + 3 < low + n → tail (b (p + 1)) ≡ true → tail (b (p + 2)) ≡ true → tail (b (p + 3)) ≡ true → 0xf0 ≤ b p
+    last-tail l u v w =
         let g = fit-tail (b p) (b (p + 1)) (b (p + 2)) (b (p + 3)) (fit p (p + 1) (p + 2) (p + 3) (omega arith) (omega arith) (omega arith) (omega arith) l) w in
-        by-first (b p) (b (p + 1)) (b (p + 2)) (g .0) (no-lead (b (p + 2)) v) (narrower 0xc2 0xf4 (b (p + 1)) 0xe0 (omega arith) (no-lead (b (p + 1)) u))
+        by-first (b p) (b (p + 1)) (b (p + 2)) (g .0) (omega (arith, tail-high (b (p + 2)) v .1)) (omega (arith, tail-high (b (p + 1)) u .1))
 
     one : p + 1 < low + n → tail (b (p + 1)) ≡ false → width (drop p s) ≡ 1
     one l u =
@@ -267,38 +266,36 @@ module _ (s : List ℕ) (low n : ℕ) (all : all-fit s low n ≡ true) (three : 
 
     two : p + 2 < low + n → tail (b (p + 1)) ≡ true → tail (b (p + 2)) ≡ false → width (drop p s) ≡ 2
     two l u v =
-        let f = first-tail (omega arith) u in
-        let w = among-bounds 0xc2 0xf4 (b p) (f .0) in
+        let w = first-tail (omega arith) u .0 in
         let g = fit-begin (b (p - 1)) (b p) (b (p + 1)) (b (p + 2)) (fit (p - 1) p (p + 1) (p + 2) (omega arith) (omega arith) (omega arith) (omega arith) l) v in
-        let h = under 0xe0 0xf4 (b p) (g .1) (w .1) in
-        let k : utf8-2 (b p) (b (p + 1)) ≡ true = rw (among-in 0xc2 0xdf (b p) (w .0) (omega arith), u) in
+        let k : utf8-2 (b p) (b (p + 1)) ≡ true = rw (among-in 0xc2 0xdf (b p) w (omega (arith, g .1)), u) in
         sym (width-at s p (omega arith) (nay _ _ (among-above 0x00 0x7f (b p) (omega arith)) (yes _ _ (le-leb 2 (length s - p) (omega arith)) (yes _ _ k refl))))
 
     three-wide : p + 3 < low + n → tail (b (p + 1)) ≡ true → tail (b (p + 2)) ≡ true → tail (b (p + 3)) ≡ false → width (drop p s) ≡ 3
     three-wide l u v x =
         let f = first-tail (omega arith) u in
-        let w = among-bounds 0xe0 0xf4 (b p) (second-tail-of (omega arith) u v) in
+        let w = next-tail (omega arith) u v in
         let g = fit-begin (b p) (b (p + 1)) (b (p + 2)) (b (p + 3)) (fit p (p + 1) (p + 2) (p + 3) (omega arith) (omega arith) (omega arith) (omega arith) l) x in
-        let h = under 0xf0 0xf4 (b p) (g .2) (w .1) in
         let k : utf8-2 (b p) (b (p + 1)) ≡ false = rw (among-above 0xc2 0xdf (b p) (omega arith)) in
         sym (width-at s p (omega arith) (nay _ _ (among-above 0x00 0x7f (b p) (omega arith)) (yes _ _ (le-leb 2 (length s - p) (omega arith)) (nay _ _ k
-        (yes _ _ (le-leb 3 (length s - p) (omega arith)) (yes _ _ (three-fit (b p) (b (p + 1)) (b (p + 2)) (w .0) (omega arith) (f .1) v) refl))))))
+        (yes _ _ (le-leb 3 (length s - p) (omega arith)) (yes _ _ (three-fit (b p) (b (p + 1)) (b (p + 2)) w (omega (arith, g .2)) (f .1) v) refl))))))
 
     four-wide : p + 3 < low + n → tail (b (p + 1)) ≡ true → tail (b (p + 2)) ≡ true → tail (b (p + 3)) ≡ true → width (drop p s) ≡ 4
     four-wide l u v x =
         let f = first-tail (omega arith) u in
-        let w = among-bounds 0xf0 0xf4 (b p) (third-tail-of l u v x) in
+        let w = last-tail l u v x in
+        let h = begins-lead (b p) (lead (omega arith) .3) in
         let k : utf8-2 (b p) (b (p + 1)) ≡ false = rw (among-above 0xc2 0xdf (b p) (omega arith)) in
         sym (width-at s p (omega arith) (nay _ _ (among-above 0x00 0x7f (b p) (omega arith)) (yes _ _ (le-leb 2 (length s - p) (omega arith)) (nay _ _ k
         (yes _ _ (le-leb 3 (length s - p) (omega arith)) (nay _ _ (above-3 (b p) (b (p + 1)) (b (p + 2)) (omega arith))
-        (yes _ _ (le-leb 4 (length s - p) (omega arith)) (yes _ _ (four-fit (b p) (b (p + 1)) (b (p + 2)) (b (p + 3)) (w .0) (w .1) (f .1) v x) refl))))))))
+        (yes _ _ (le-leb 4 (length s - p) (omega arith)) (yes _ _ (four-fit (b p) (b (p + 1)) (b (p + 2)) (b (p + 3)) w h (f .1) v x) refl))))))))
 
   -- four tails in a row are awaited by nothing
   no-four : (p : ℕ) → low ≤ p + 3 → p + 3 < low + n → tail (b p) ≡ true → tail (b (p + 1)) ≡ true → tail (b (p + 2)) ≡ true → tail (b (p + 3)) ≡ true → {A : Type 0} → A
   no-four p h l t u v w =
       let g = fit-tail (b p) (b (p + 1)) (b (p + 2)) (b (p + 3)) (fit p (p + 1) (p + 2) (p + 3) (omega arith) (omega arith) (omega arith) h l) w in
-      let k = by-first (b p) (b (p + 1)) (b (p + 2)) (g .0) (no-lead (b (p + 2)) v) (narrower 0xc2 0xf4 (b (p + 1)) 0xe0 (omega arith) (no-lead (b (p + 1)) u)) in
-      no (sym k ∙ narrower 0xc2 0xf4 (b p) 0xf0 (omega arith) (no-lead (b p) t))
+      let k = by-first (b p) (b (p + 1)) (b (p + 2)) (g .0) (omega (arith, tail-high (b (p + 2)) v .1)) (omega (arith, tail-high (b (p + 1)) u .1)) in
+      absurd (omega (arith, tail-high (b p) t .1))
 
   moved : (p w r : ℕ) → width (drop p s) ≡ w → 0 < w → p + w ≡ r → utf8 (drop r s) ≡ utf8 (drop p s)
   moved p w r e h z = rw (← z, ← drop-drop w p s, ← e) (past-width (drop p s) (omega arith))

@@ -4,7 +4,7 @@ ghost use lib.ListN.{length, drop};
 ghost use lib.Dec.{leb};
 ghost use Rattle.reading.specs.Utf8.{among, tail, utf8-2, utf8-3, utf8-4, utf8};
 ghost use Rattle.reading.proofs.Utf8.{plain, width};
-ghost use Rattle.reading.proofs.Utf8Bytes.{begins, awaited, second, fits, all-fit};
+ghost use Rattle.reading.proofs.Utf8Bytes.{begins, awaited, least, most, second, fits, all-fit};
 ghost use Rattle.xdr.specs.Text.{Last-begins, Same-text};
 
 // Whether b is one of the numbers from lo to hi.
@@ -169,32 +169,46 @@ fn begins(d: u8) -> bool
 fn awaited(a: u8, b: u8, c: u8) -> bool
     ensures { λ r. ⌜ r ≡ awaited a b c ⌝ }
 {
-    if among(0xc2, 0xf4, c) {
+    if 0xc2 <= c {
         return true;
     }
-    if among(0xe0, 0xf4, b) {
+    if 0xe0 <= b {
         return true;
     }
-    among(0xf0, 0xf4, a)
+    0xf0 <= a
 }
 
-// Whether d may stand behind c where it is awaited: some lead bytes have rows of their own for the second.
+// The least byte that may stand behind c where one is awaited.
+fn least(c: u8) -> u8
+    ensures { λ r. ⌜ r ≡ least c ⌝ }
+{
+    if among(0xe0, 0xe0, c) {
+        return 0xa0;
+    }
+    if among(0xf0, 0xf0, c) {
+        return 0x90;
+    }
+    0x80
+}
+
+// And the greatest.
+fn most(c: u8) -> u8
+    ensures { λ r. ⌜ r ≡ most c ⌝ }
+{
+    if among(0xed, 0xed, c) {
+        return 0x9f;
+    }
+    if among(0xf4, 0xf4, c) {
+        return 0x8f;
+    }
+    0xbf
+}
+
+// Whether d may stand behind c where it is awaited.
 fn second(c: u8, d: u8) -> bool
     ensures { λ r. ⌜ r ≡ second c d ⌝ }
 {
-    if among(0xe0, 0xe0, c) {
-        return among(0xa0, 0xbf, d);
-    }
-    if among(0xed, 0xed, c) {
-        return among(0x80, 0x9f, d);
-    }
-    if among(0xf0, 0xf0, c) {
-        return among(0x90, 0xbf, d);
-    }
-    if among(0xf4, 0xf4, c) {
-        return among(0x80, 0x8f, d);
-    }
-    tail(d)
+    among(least(c), most(c), d)
 }
 
 // Whether d fits the three bytes before it.
