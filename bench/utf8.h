@@ -114,6 +114,8 @@ static __attribute__((noinline)) bool is_utf8(const uint8_t *s, size_t n) {
         s += __builtin_ctzll(high) / 8;
         if (s - begin >= 3)
             s = utf8_past_windows(s, end);
+        if (*s < 0x80)
+            continue;
         if (end - s < 4)
             break;
         do {
