@@ -31,9 +31,9 @@ def grown(count):
 
 
 def strings():
-    """Strings of every short length, which end where the input ends, or behind which bytes stand that could go on with a character."""
-    for length in range(41):
-        for text in (b"abcdefgh" * 5, "ü€🦀 éa".encode() * 3):
+    """Strings of many lengths, which end where the input ends, or behind which bytes stand that could go on with a character."""
+    for length in range(241):
+        for text in (b"abcdefgh" * 30, "ü€🦀 éa".encode() * 18, "日本é🦀".encode() * 20):
             yield with_record(1005, words(1) + opaque(b"") + opaque(text[:length]))
             yield with_record(1008, opaque(text[:length]) + b"\x80" * 8)
 

@@ -28,7 +28,7 @@ def linear(cases, times, counts):
         yield ratio <= MOST_OF_SIXTEEN, said
 
 
-def targets(cases, times, counts, texts):
+def targets(cases, times, counts, texts, growth):
     for name in ("typical", "nested"):
         ratio = times[name]["crate"] / times[name]["ours"]
         yield ratio >= LEAST_OF_CRATE, f"target: crate/ours on {name} is {ratio:.2f}, at least {LEAST_OF_CRATE}"
@@ -36,6 +36,7 @@ def targets(cases, times, counts, texts):
         ratio = times[case.name]["ours"] / times[case.name]["walk"]
         yield ratio <= MOST_OF_WALK, f"target: ours/walk on {case.name} is {ratio:.2f}, at most {MOST_OF_WALK}"
     yield from linear(cases, times, counts)
+    yield growth <= MOST_OF_SIXTEEN, f"target: 16 MiB over 1 MiB of typical samples in time is {growth:.2f}, at most {MOST_OF_SIXTEEN}"
     for name in workloads.TEXTS:
         ratio = texts[name]["ours"] / texts[name]["std"]
         yield ratio <= MOST_OF_STD, f"target: ours/std on {name} is {ratio:.2f}, at most {MOST_OF_STD}"

@@ -2,7 +2,7 @@
 import re
 
 import shapes
-from shapes import counter_sample, flow_sample, frame, header, words
+from shapes import flow_sample, frame, header, words
 
 RECIPE = re.compile(r"(?P<exactly>exactly )?(?P<kind>[a-zP]\w*)(?: (?P<number>\d+)(?:/(?P<form>\d+))?)?(?: of (?P<count>\d+))?"
                     r"(?::(?P<data>[^,]*))?(?:, then (?P<tail>[^,]*))?(?:, to (?P<size>\d+) bytes)?")
@@ -35,6 +35,11 @@ def data_of(text, fewer=0):
     if text[at:].strip():
         raise Unreadable(f"'{text[at:].strip()}' is no hex")
     return out
+
+
+def counter_sample(count, records):
+    """Its fields are 0, as those of the flow sample."""
+    return frame(2, words(0, 0, count) + records)
 
 
 def deep(levels, count, data):

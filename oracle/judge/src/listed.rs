@@ -1,5 +1,5 @@
 //! The differences outside the domain that docs/DIFFERENCES.md lists: each input with what document 01 and the crate give, as a datagram
-//! and as a run.
+//! and as a run. That each of them is a row of that document, with the same answers, is checked by tests/differences/run.
 
 use crate::compare::theirs;
 use crate::fault::Library;
@@ -131,9 +131,25 @@ fn check_row(row: &Row, library: &Library) -> Checked {
     same(&name("the crate's code and datagrams as a run"), &crates, &row.crates_run)
 }
 
+fn rows() -> impl Iterator<Item = Row> {
+    too_long().into_iter().chain(too_deep()).chain(opened())
+}
+
+/// How many bytes of an input are shown: those of all but the longest are there, and these are told apart by them.
+const SHOWN: usize = 512;
+
+/// A line for each: its length, its first bytes, document 01's code and position, the crate's code, and the same four as a run.
+pub fn show() {
+    for row in rows() {
+        let first: String = row.input.iter().take(SHOWN).map(|byte| format!("{byte:02x}")).collect();
+        let (one, run, crates) = (row.ours, row.ours_run, row.crates_run);
+        println!("{} {first} {} {} {} {} {} {} {}", row.input.len(), one.0, one.1, row.crates, run.0, run.1, crates.0, crates.1);
+    }
+}
+
 pub fn check(fault: u32) -> Tally {
     let (mut tally, library) = (Tally::default(), Library { fault });
-    for row in too_long().into_iter().chain(too_deep()).chain(opened()) {
+    for row in rows() {
         tally.cases += 1;
         if let Err(found) = check_row(&row, &library) {
             tally.differ += 1;

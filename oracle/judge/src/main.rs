@@ -82,6 +82,7 @@ fn main() {
     let mut listed = Tally::default();
     let tally = match words[..] {
         ["--c-checks"] => return print!("{}", library::c_checks()),
+        ["--listed"] => return listed::show(),
         ["--list-faults"] => return fault::FAULTS.iter().for_each(|what| println!("{what}")),
         ["--every-byte"] => sweep::every_byte(fault),
         ["--strings"] => sweep::strings(fault),

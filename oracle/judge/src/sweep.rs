@@ -50,12 +50,15 @@ const EDGES: [u8; 26] = [
     0xf4, 0xf5, 0xf8, 0xff,
 ];
 
-/// Every string of one to four of these bytes, behind none to eleven letters.
+/// Every string of one to four of these bytes, behind none to eleven letters; and each of them in the middle of a long text too.
 pub fn strings(fault: u32) -> Tally {
     let base = EDGES.len() as u64;
     let total = base + base.pow(2) + base.pow(3) + base.pow(4);
-    work::spread(total, fault, |case| {
+    let around = "\u{e9}\u{65e5}\u{672c}\u{1f980}a".repeat(8);
+    work::spread(2 * total, fault, |case| {
+        let (case, around) = (case % total, if case < total { "" } else { &around });
         let mut text = vec![b'a'; case as usize % 12];
+        text.extend_from_slice(around.as_bytes());
         let mut rest = case;
         loop {
             text.push(EDGES[(rest % base) as usize]);
@@ -64,6 +67,7 @@ pub fn strings(fault: u32) -> Tally {
             }
             rest = rest / base - 1;
         }
+        text.extend_from_slice(around.as_bytes());
         let length = text.len() as u32;
         text.resize(text.len().next_multiple_of(4), 0xff);
         text.extend_from_slice(&[0; 8]);
