@@ -105,7 +105,7 @@ static void check_changed(uint8_t *data, size_t length) {
 }
 
 int main(void) {
-    static uint8_t data[MOST_WORDS / 6 * 4];
+    static uint8_t data[MOST_WORDS / LATCHPLUME_DESCRIPTOR_WORDS * 4];
     uint32_t length;
     for (int i = 0; i < 2; i++)
         if ((stores[i] = malloc((MOST_WORDS + 2 * SPARE) * sizeof *stores[i])) == NULL)

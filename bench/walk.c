@@ -335,13 +335,16 @@ typedef struct next {
     size_t index;
 } next;
 
-INLINE void put(const pen *p, uint32_t kind, uint32_t format, const uint8_t *start, size_t length, size_t parent, uint32_t depth) {
+/* The descriptor of what begins at the pen's byte. Its head, of so many bytes, comes before its range. */
+INLINE void put(const pen *p, uint32_t kind, uint32_t format, uint32_t head, size_t length, size_t parent, uint32_t depth) {
+    uint32_t first = (uint32_t)(p->at - p->data);
     p->to[LATCHPLUME_KIND] = kind;
     p->to[LATCHPLUME_FORMAT] = format;
-    p->to[LATCHPLUME_START] = (uint32_t)(start - p->data);
+    p->to[LATCHPLUME_START] = first + head;
     p->to[LATCHPLUME_LENGTH] = (uint32_t)length;
     p->to[LATCHPLUME_PARENT] = (uint32_t)parent;
     p->to[LATCHPLUME_AT_DEPTH] = depth;
+    p->to[LATCHPLUME_FIRST] = first;
 }
 
 /* Past the place of one descriptor. */
@@ -353,7 +356,7 @@ INLINE void step(pen *p) {
 /* A frame's own descriptor; past the frame. */
 INLINE frame put_frame(pen *p, uint32_t kind, size_t parent, uint32_t depth) {
     frame f = {word_at(p->at), word_at(p->at + 4), p->at + 8};
-    put(p, kind, f.format, f.start, f.length, parent, depth);
+    put(p, kind, f.format, 8, f.length, parent, depth);
     step(p);
     p->at = f.start + padded(f.length);
     return f;
@@ -383,7 +386,7 @@ next put_aggregation(const uint8_t *data, const uint8_t *at, next to, uint32_t d
         p.at = start;
         step(&p);
         put_flow_records(&p, records, own.index, depth + 1);
-        put(&own, LATCHPLUME_PDU, 0, start, (size_t)(p.at - start), parent, depth);
+        put(&own, LATCHPLUME_PDU, 0, 4, (size_t)(p.at - start), parent, depth);
     }
     return (next){p.to, p.index};
 }
@@ -416,7 +419,7 @@ INLINE pen put_datagram(pen p) {
         put_sample_data(&p, &f);
         p.at = behind;
     }
-    put(&own, LATCHPLUME_DATAGRAM, 0, own.at, (size_t)(p.at - own.at), LATCHPLUME_NOBODY, 0);
+    put(&own, LATCHPLUME_DATAGRAM, 0, 0, (size_t)(p.at - own.at), LATCHPLUME_NOBODY, 0);
     return p;
 }
 

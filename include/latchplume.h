@@ -41,8 +41,8 @@ extern "C" {
 /* The longest input that is read. */
 #define LATCHPLUME_MAX_INPUT 16777216u
 
-/* A descriptor is six words. A store of w words holds w / 6 of them. */
-#define LATCHPLUME_DESCRIPTOR_WORDS 6u
+/* The words of a descriptor. A store of w words holds w / LATCHPLUME_DESCRIPTOR_WORDS of them, rounded down. */
+#define LATCHPLUME_DESCRIPTOR_WORDS 7u
 
 /* The words of a store that has room for every input of this many bytes: each descriptor owns four bytes of the input. */
 #define LATCHPLUME_STORE_WORDS(length) ((size_t)(length) / 4u * LATCHPLUME_DESCRIPTOR_WORDS)
@@ -76,6 +76,8 @@ enum latchplume_code {
  *   parent    the parent's index in the store; LATCHPLUME_NOBODY for a datagram
  *   depth     0 for datagrams and samples, 1 for a sample's own records, d + 1 for records in a PDU of a record at depth d; a PDU has
  *             its record's. At most 8
+ *   first     the first byte of all: of a datagram its start, of a sample or record its format word, of a PDU its record count. A byte of
+ *             the parent's range, and at or behind the end of the sibling before
  */
 enum latchplume_descriptor_word {
     LATCHPLUME_KIND = 0,
@@ -83,7 +85,8 @@ enum latchplume_descriptor_word {
     LATCHPLUME_START = 2,
     LATCHPLUME_LENGTH = 3,
     LATCHPLUME_PARENT = 4,
-    LATCHPLUME_AT_DEPTH = 5
+    LATCHPLUME_AT_DEPTH = 5,
+    LATCHPLUME_FIRST = 6
 };
 
 enum latchplume_kind {
@@ -228,7 +231,7 @@ typedef struct latchplume_header {
     uint32_t num_samples;
 } latchplume_header;
 
-latchplume_header latchplume_read_header(const uint8_t *data, size_t length, const uint32_t descriptor[6]);
+latchplume_header latchplume_read_header(const uint8_t *data, size_t length, const uint32_t descriptor[LATCHPLUME_DESCRIPTOR_WORDS]);
 
 /* Samples: kind 1, the fields before their records. */
 
@@ -245,7 +248,8 @@ typedef struct latchplume_flow_sample {
     uint32_t num_records;
 } latchplume_flow_sample;
 
-latchplume_flow_sample latchplume_read_flow_sample(const uint8_t *data, size_t length, const uint32_t descriptor[6]);
+latchplume_flow_sample latchplume_read_flow_sample(
+    const uint8_t *data, size_t length, const uint32_t descriptor[LATCHPLUME_DESCRIPTOR_WORDS]);
 
 /* Format 2: counters of a source. */
 typedef struct latchplume_counters_sample {
@@ -255,7 +259,8 @@ typedef struct latchplume_counters_sample {
     uint32_t num_records;
 } latchplume_counters_sample;
 
-latchplume_counters_sample latchplume_read_counters_sample(const uint8_t *data, size_t length, const uint32_t descriptor[6]);
+latchplume_counters_sample latchplume_read_counters_sample(
+    const uint8_t *data, size_t length, const uint32_t descriptor[LATCHPLUME_DESCRIPTOR_WORDS]);
 
 /* Format 3: as 1, with two words each for the source and the interfaces. */
 typedef struct latchplume_flow_sample_expanded {
@@ -271,7 +276,7 @@ typedef struct latchplume_flow_sample_expanded {
 } latchplume_flow_sample_expanded;
 
 latchplume_flow_sample_expanded latchplume_read_flow_sample_expanded(
-    const uint8_t *data, size_t length, const uint32_t descriptor[6]);
+    const uint8_t *data, size_t length, const uint32_t descriptor[LATCHPLUME_DESCRIPTOR_WORDS]);
 
 /* Format 4: as 2, with two words for the source. */
 typedef struct latchplume_counters_sample_expanded {
@@ -282,7 +287,7 @@ typedef struct latchplume_counters_sample_expanded {
 } latchplume_counters_sample_expanded;
 
 latchplume_counters_sample_expanded latchplume_read_counters_sample_expanded(
-    const uint8_t *data, size_t length, const uint32_t descriptor[6]);
+    const uint8_t *data, size_t length, const uint32_t descriptor[LATCHPLUME_DESCRIPTOR_WORDS]);
 
 /* Format 5: a packet that was discarded, and why. */
 typedef struct latchplume_discarded_packet {
@@ -296,7 +301,8 @@ typedef struct latchplume_discarded_packet {
     uint32_t num_records;
 } latchplume_discarded_packet;
 
-latchplume_discarded_packet latchplume_read_discarded_packet(const uint8_t *data, size_t length, const uint32_t descriptor[6]);
+latchplume_discarded_packet latchplume_read_discarded_packet(
+    const uint8_t *data, size_t length, const uint32_t descriptor[LATCHPLUME_DESCRIPTOR_WORDS]);
 
 /* Flow records: kind 2. */
 
@@ -309,7 +315,8 @@ typedef struct latchplume_sampled_header {
     latchplume_span header; /* bytes */
 } latchplume_sampled_header;
 
-latchplume_sampled_header latchplume_read_sampled_header(const uint8_t *data, size_t length, const uint32_t descriptor[6]);
+latchplume_sampled_header latchplume_read_sampled_header(
+    const uint8_t *data, size_t length, const uint32_t descriptor[LATCHPLUME_DESCRIPTOR_WORDS]);
 
 /* Format 2: an Ethernet frame. */
 typedef struct latchplume_sampled_ethernet {
@@ -320,7 +327,8 @@ typedef struct latchplume_sampled_ethernet {
     uint32_t eth_type;
 } latchplume_sampled_ethernet;
 
-latchplume_sampled_ethernet latchplume_read_sampled_ethernet(const uint8_t *data, size_t length, const uint32_t descriptor[6]);
+latchplume_sampled_ethernet latchplume_read_sampled_ethernet(
+    const uint8_t *data, size_t length, const uint32_t descriptor[LATCHPLUME_DESCRIPTOR_WORDS]);
 
 /* Format 3: an IPv4 packet. An address is its four bytes as one number, the first of them uppermost. */
 typedef struct latchplume_sampled_ipv4 {
@@ -335,7 +343,8 @@ typedef struct latchplume_sampled_ipv4 {
     uint32_t tos;
 } latchplume_sampled_ipv4;
 
-latchplume_sampled_ipv4 latchplume_read_sampled_ipv4(const uint8_t *data, size_t length, const uint32_t descriptor[6]);
+latchplume_sampled_ipv4 latchplume_read_sampled_ipv4(
+    const uint8_t *data, size_t length, const uint32_t descriptor[LATCHPLUME_DESCRIPTOR_WORDS]);
 
 /* Format 4: an IPv6 packet. */
 typedef struct latchplume_sampled_ipv6 {
@@ -350,7 +359,8 @@ typedef struct latchplume_sampled_ipv6 {
     uint32_t priority;
 } latchplume_sampled_ipv6;
 
-latchplume_sampled_ipv6 latchplume_read_sampled_ipv6(const uint8_t *data, size_t length, const uint32_t descriptor[6]);
+latchplume_sampled_ipv6 latchplume_read_sampled_ipv6(
+    const uint8_t *data, size_t length, const uint32_t descriptor[LATCHPLUME_DESCRIPTOR_WORDS]);
 
 /* Format 1001: the VLANs and priorities of a switched packet. */
 typedef struct latchplume_extended_switch {
@@ -361,7 +371,8 @@ typedef struct latchplume_extended_switch {
     uint32_t dst_priority;
 } latchplume_extended_switch;
 
-latchplume_extended_switch latchplume_read_extended_switch(const uint8_t *data, size_t length, const uint32_t descriptor[6]);
+latchplume_extended_switch latchplume_read_extended_switch(
+    const uint8_t *data, size_t length, const uint32_t descriptor[LATCHPLUME_DESCRIPTOR_WORDS]);
 
 /* Format 1002: the next hop of a routed packet, and the masks of its ends. */
 typedef struct latchplume_extended_router {
@@ -371,7 +382,8 @@ typedef struct latchplume_extended_router {
     uint32_t dst_mask_len;
 } latchplume_extended_router;
 
-latchplume_extended_router latchplume_read_extended_router(const uint8_t *data, size_t length, const uint32_t descriptor[6]);
+latchplume_extended_router latchplume_read_extended_router(
+    const uint8_t *data, size_t length, const uint32_t descriptor[LATCHPLUME_DESCRIPTOR_WORDS]);
 
 /* Format 1003: the BGP route of a packet. */
 typedef struct latchplume_extended_gateway {
@@ -385,7 +397,8 @@ typedef struct latchplume_extended_gateway {
     uint32_t local_pref;
 } latchplume_extended_gateway;
 
-latchplume_extended_gateway latchplume_read_extended_gateway(const uint8_t *data, size_t length, const uint32_t descriptor[6]);
+latchplume_extended_gateway latchplume_read_extended_gateway(
+    const uint8_t *data, size_t length, const uint32_t descriptor[LATCHPLUME_DESCRIPTOR_WORDS]);
 
 /* Format 1004: the users at both ends of a packet. */
 typedef struct latchplume_extended_user {
@@ -396,7 +409,8 @@ typedef struct latchplume_extended_user {
     latchplume_span dst_user; /* a string */
 } latchplume_extended_user;
 
-latchplume_extended_user latchplume_read_extended_user(const uint8_t *data, size_t length, const uint32_t descriptor[6]);
+latchplume_extended_user latchplume_read_extended_user(
+    const uint8_t *data, size_t length, const uint32_t descriptor[LATCHPLUME_DESCRIPTOR_WORDS]);
 
 /* Format 1005: an HTTP request; direction 1 is the source's, 2 the destination's. */
 typedef struct latchplume_extended_url {
@@ -406,7 +420,8 @@ typedef struct latchplume_extended_url {
     latchplume_span host; /* a string */
 } latchplume_extended_url;
 
-latchplume_extended_url latchplume_read_extended_url(const uint8_t *data, size_t length, const uint32_t descriptor[6]);
+latchplume_extended_url latchplume_read_extended_url(
+    const uint8_t *data, size_t length, const uint32_t descriptor[LATCHPLUME_DESCRIPTOR_WORDS]);
 
 /* Format 1006: the MPLS label stacks of a packet. */
 typedef struct latchplume_extended_mpls {
@@ -416,7 +431,8 @@ typedef struct latchplume_extended_mpls {
     latchplume_span out_stack; /* a list */
 } latchplume_extended_mpls;
 
-latchplume_extended_mpls latchplume_read_extended_mpls(const uint8_t *data, size_t length, const uint32_t descriptor[6]);
+latchplume_extended_mpls latchplume_read_extended_mpls(
+    const uint8_t *data, size_t length, const uint32_t descriptor[LATCHPLUME_DESCRIPTOR_WORDS]);
 
 /* Format 1007: a packet's addresses behind a translation. */
 typedef struct latchplume_extended_nat {
@@ -425,7 +441,8 @@ typedef struct latchplume_extended_nat {
     latchplume_address dst_address;
 } latchplume_extended_nat;
 
-latchplume_extended_nat latchplume_read_extended_nat(const uint8_t *data, size_t length, const uint32_t descriptor[6]);
+latchplume_extended_nat latchplume_read_extended_nat(
+    const uint8_t *data, size_t length, const uint32_t descriptor[LATCHPLUME_DESCRIPTOR_WORDS]);
 
 /* Format 1008: the MPLS tunnel. */
 typedef struct latchplume_extended_mpls_tunnel {
@@ -436,7 +453,7 @@ typedef struct latchplume_extended_mpls_tunnel {
 } latchplume_extended_mpls_tunnel;
 
 latchplume_extended_mpls_tunnel latchplume_read_extended_mpls_tunnel(
-    const uint8_t *data, size_t length, const uint32_t descriptor[6]);
+    const uint8_t *data, size_t length, const uint32_t descriptor[LATCHPLUME_DESCRIPTOR_WORDS]);
 
 /* Format 1009: the MPLS virtual circuit. */
 typedef struct latchplume_extended_mpls_vc {
@@ -447,7 +464,8 @@ typedef struct latchplume_extended_mpls_vc {
     uint32_t vc_cos;
 } latchplume_extended_mpls_vc;
 
-latchplume_extended_mpls_vc latchplume_read_extended_mpls_vc(const uint8_t *data, size_t length, const uint32_t descriptor[6]);
+latchplume_extended_mpls_vc latchplume_read_extended_mpls_vc(
+    const uint8_t *data, size_t length, const uint32_t descriptor[LATCHPLUME_DESCRIPTOR_WORDS]);
 
 /* Format 1010: the forwarding equivalence class, as an address prefix. */
 typedef struct latchplume_extended_mpls_fec {
@@ -456,7 +474,8 @@ typedef struct latchplume_extended_mpls_fec {
     uint32_t fec_prefix_len;
 } latchplume_extended_mpls_fec;
 
-latchplume_extended_mpls_fec latchplume_read_extended_mpls_fec(const uint8_t *data, size_t length, const uint32_t descriptor[6]);
+latchplume_extended_mpls_fec latchplume_read_extended_mpls_fec(
+    const uint8_t *data, size_t length, const uint32_t descriptor[LATCHPLUME_DESCRIPTOR_WORDS]);
 
 /* Format 1011: the forwarding equivalence class, as a prefix length. */
 typedef struct latchplume_extended_mpls_lvp_fec {
@@ -465,7 +484,7 @@ typedef struct latchplume_extended_mpls_lvp_fec {
 } latchplume_extended_mpls_lvp_fec;
 
 latchplume_extended_mpls_lvp_fec latchplume_read_extended_mpls_lvp_fec(
-    const uint8_t *data, size_t length, const uint32_t descriptor[6]);
+    const uint8_t *data, size_t length, const uint32_t descriptor[LATCHPLUME_DESCRIPTOR_WORDS]);
 
 /* Format 1012: the VLAN tags that were taken off, each with its TPID above its TCI. */
 typedef struct latchplume_extended_vlan_tunnel {
@@ -474,7 +493,7 @@ typedef struct latchplume_extended_vlan_tunnel {
 } latchplume_extended_vlan_tunnel;
 
 latchplume_extended_vlan_tunnel latchplume_read_extended_vlan_tunnel(
-    const uint8_t *data, size_t length, const uint32_t descriptor[6]);
+    const uint8_t *data, size_t length, const uint32_t descriptor[LATCHPLUME_DESCRIPTOR_WORDS]);
 
 /* Format 1013: an 802.11 payload before it was encrypted. */
 typedef struct latchplume_extended_80211_payload {
@@ -484,7 +503,7 @@ typedef struct latchplume_extended_80211_payload {
 } latchplume_extended_80211_payload;
 
 latchplume_extended_80211_payload latchplume_read_extended_80211_payload(
-    const uint8_t *data, size_t length, const uint32_t descriptor[6]);
+    const uint8_t *data, size_t length, const uint32_t descriptor[LATCHPLUME_DESCRIPTOR_WORDS]);
 
 /* Format 1014: how an 802.11 packet was received. */
 typedef struct latchplume_extended_80211_rx {
@@ -499,7 +518,8 @@ typedef struct latchplume_extended_80211_rx {
     uint32_t packet_duration;
 } latchplume_extended_80211_rx;
 
-latchplume_extended_80211_rx latchplume_read_extended_80211_rx(const uint8_t *data, size_t length, const uint32_t descriptor[6]);
+latchplume_extended_80211_rx latchplume_read_extended_80211_rx(
+    const uint8_t *data, size_t length, const uint32_t descriptor[LATCHPLUME_DESCRIPTOR_WORDS]);
 
 /* Format 1015: how an 802.11 packet was sent. */
 typedef struct latchplume_extended_80211_tx {
@@ -515,7 +535,8 @@ typedef struct latchplume_extended_80211_tx {
     uint32_t power;
 } latchplume_extended_80211_tx;
 
-latchplume_extended_80211_tx latchplume_read_extended_80211_tx(const uint8_t *data, size_t length, const uint32_t descriptor[6]);
+latchplume_extended_80211_tx latchplume_read_extended_80211_tx(
+    const uint8_t *data, size_t length, const uint32_t descriptor[LATCHPLUME_DESCRIPTOR_WORDS]);
 
 /* Format 1016: an 802.11 aggregation: how many PDUs follow. They and their records have descriptors of their own. */
 typedef struct latchplume_extended_80211_aggregation {
@@ -524,10 +545,17 @@ typedef struct latchplume_extended_80211_aggregation {
 } latchplume_extended_80211_aggregation;
 
 latchplume_extended_80211_aggregation latchplume_read_extended_80211_aggregation(
-    const uint8_t *data, size_t length, const uint32_t descriptor[6]);
+    const uint8_t *data, size_t length, const uint32_t descriptor[LATCHPLUME_DESCRIPTOR_WORDS]);
 
 /* Where a descriptor's payload lies. It refuses nothing: where code 1 or 10 would apply, start and count are 0. */
-latchplume_span latchplume_payload(const uint8_t *data, size_t length, const uint32_t descriptor[6]);
+latchplume_span latchplume_payload(const uint8_t *data, size_t length, const uint32_t descriptor[LATCHPLUME_DESCRIPTOR_WORDS]);
+
+/*
+ * Where all of it lies, from its first byte to the end of its pad, as a relay would forward it: of a sample or record the format word,
+ * the length word, the payload and the pad. It refuses nothing: where code 1 would apply, the input ends before that, or the
+ * descriptor's first byte is behind its start, start and count are 0.
+ */
+latchplume_span latchplume_whole(const uint8_t *data, size_t length, const uint32_t descriptor[LATCHPLUME_DESCRIPTOR_WORDS]);
 
 /* Going through what is answered as start and count. */
 

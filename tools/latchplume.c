@@ -1,11 +1,14 @@
-/* The command: lists, or shows as a tree, the sFlow datagrams of a file. */
+/* The command: lists the sFlow datagrams of a file, shows them as a tree, or cuts a record out. */
+#include "cut.h"
 #include "input.h"
 #include "packets.h"
 #include "show.h"
+#include "status.h"
 #include "text.h"
 
 #include <errno.h>
 #include <inttypes.h>
+#include <limits.h>
 #include <locale.h>
 #include <stdio.h>
 #include <stdlib.h>
@@ -15,24 +18,30 @@ static const char HELP[] =
     "usage: latchplume list [--port N] FILE          one datagram: the answer, and a line for each descriptor\n"
     "       latchplume run  [--port N] FILE          datagrams end to end, listed likewise\n"
     "       latchplume show [--port N] [--full] FILE datagrams end to end, each as a tree of its fields\n"
+    "       latchplume cut  [--port N --packet N] FILE INDEX\n"
+    "                                                one record, from its format word to its pad, as a relay would forward it\n"
     "\n"
     "FILE holds sFlow version 5 datagrams, bare; or it is a pcap or pcapng file, whose UDP packets to the sFlow port are read one\n"
     "by one. - is standard input. Bare datagrams are read up to 16,777,216 bytes.\n"
+    "INDEX counts descriptors from 0, as list and run print them. Samples, PDUs and datagrams are cut out as well.\n"
     "\n"
     "  --port N   the port of the packets in a pcap file, instead of 6343\n"
+    "  --packet N the packet of a pcap file that INDEX is in, as list counts them\n"
     "  --full     all of a field that has more than 256 bytes or words\n"
     "  --help     this text\n"
     "\n"
     "exit status: 0 all was accepted\n"
     "             1 a datagram was refused, is cut or is in fragments, or bytes are left over that are no datagram (show)\n"
-    "             2 the words of the command are off; the file is missing, empty, a folder, too long or no readable capture\n";
-
-enum { ACCEPTED = 0, REFUSED = 1, TROUBLE = 2 };
+    "             2 the words of the command are off, or no descriptor has INDEX; the file is missing, empty, a folder, too long or no\n"
+    "               readable capture\n";
 
 struct work {
     void (*each)(struct work *w, const uint8_t *data, size_t length);
     const char *file;
     unsigned port;
+    bool cuts; /* where `each` has no part */
+    const char *index;
+    struct cut cut;
     size_t most;
     uint32_t *store;
     size_t words;
@@ -57,7 +66,8 @@ static void print_listing(struct work *w, const latchplume_answer *a)
     for (size_t i = 0; i < a->needed; i++) {
         const uint32_t *d = w->store + LATCHPLUME_DESCRIPTOR_WORDS * i;
         printf("kind=%" PRIu32 " format=%" PRIu32 " start=%" PRIu32, d[LATCHPLUME_KIND], d[LATCHPLUME_FORMAT], d[LATCHPLUME_START]);
-        printf(" length=%" PRIu32 " parent=%" PRIu32 " depth=%" PRIu32 "\n", d[LATCHPLUME_LENGTH], d[LATCHPLUME_PARENT], d[LATCHPLUME_AT_DEPTH]);
+        printf(" length=%" PRIu32 " parent=%" PRIu32, d[LATCHPLUME_LENGTH], d[LATCHPLUME_PARENT]);
+        printf(" depth=%" PRIu32 " first=%" PRIu32 "\n", d[LATCHPLUME_AT_DEPTH], d[LATCHPLUME_FIRST]);
     }
 }
 
@@ -82,8 +92,10 @@ static size_t show_next(struct work *w, const struct shown *s, size_t from)
         worse(w, REFUSED);
         return 0;
     }
-    for (size_t i = 0; i < got.answer.needed; i++)
+    for (size_t i = 0; i < got.answer.needed; i++) {
         w->store[LATCHPLUME_DESCRIPTOR_WORDS * i + LATCHPLUME_START] += (uint32_t)from;
+        w->store[LATCHPLUME_DESCRIPTOR_WORDS * i + LATCHPLUME_FIRST] += (uint32_t)from;
+    }
     if (!show_datagram(s, ++w->number, w->store, got.answer.needed))
         worse(w, REFUSED);
     return got.answer.at;
@@ -169,6 +181,8 @@ static int work(struct work *w)
     bool capture = input_is_capture(in.data, in.length);
     if (!make_store(w, capture ? 65535 : in.length))
         worse(w, TROUBLE);
+    else if (w->cuts)
+        worse(w, cut_out(&w->cut, &in, w->store, w->words));
     else if (capture)
         work_on_capture(w, &in);
     else
@@ -188,12 +202,28 @@ static int usage(const char *said, const char *about)
     return TROUBLE;
 }
 
-static bool read_port(const char *text, unsigned *port)
+/* A number in digits, from `least` to `most`. */
+static bool read_number(const char *text, unsigned long least, unsigned long most, unsigned long *number)
 {
     char *end;
-    unsigned long number = text ? strtoul(text, &end, 10) : 0;
-    *port = (unsigned)number;
-    return text && *text >= '0' && *text <= '9' && *end == '\0' && number >= 1 && number <= 65535;
+    errno = 0;
+    *number = text ? strtoul(text, &end, 10) : 0;
+    return text && *text >= '0' && *text <= '9' && *end == '\0' && errno == 0 && *number >= least && *number <= most;
+}
+
+/* Once all words are read. */
+static int go(struct work *w)
+{
+    unsigned long index;
+    if (!w->file)
+        return usage("a file is missing", "");
+    if (w->cuts && !w->index)
+        return usage("the index of a descriptor is missing", "");
+    if (w->cuts && !read_number(w->index, 0, ULONG_MAX, &index))
+        return usage("an index is a number from 0 on, and not ", w->index);
+    if (w->cuts)
+        w->cut = (struct cut){index, w->cut.packet, w->port};
+    return work(w);
 }
 
 /* The words behind the command's name. */
@@ -201,23 +231,30 @@ static int with(struct work *w, char **words)
 {
     bool options = true;
     for (; *words; words++) {
+        unsigned long number;
         bool option = options && words[0][0] == '-' && words[0][1] != '\0';
         if (option && strcmp(*words, "--") == 0) {
             options = false;
         } else if (option && strcmp(*words, "--full") == 0) {
             w->most = SIZE_MAX;
         } else if (option && strcmp(*words, "--port") == 0) {
-            if (!read_port(*++words, &w->port))
+            if (!read_number(*++words, 1, 65535, &number))
                 return usage("--port takes a number from 1 to 65535", "");
+            w->port = (unsigned)number;
+        } else if (option && w->cuts && strcmp(*words, "--packet") == 0) {
+            if (!read_number(*++words, 1, ULONG_MAX, &w->cut.packet))
+                return usage("--packet takes a number from 1 on", "");
         } else if (option) {
             return usage("there is no option ", *words);
-        } else if (w->file) {
-            return usage("one file at a time, and here is another: ", *words);
-        } else {
+        } else if (!w->file) {
             w->file = *words;
+        } else if (w->cuts && !w->index) {
+            w->index = *words;
+        } else {
+            return usage("one file at a time, and here is another: ", *words);
         }
     }
-    return w->file ? work(w) : usage("a file is missing", "");
+    return go(w);
 }
 
 int main(int count, char **words)
@@ -225,7 +262,7 @@ int main(int count, char **words)
     static const struct {
         const char *name;
         void (*each)(struct work *w, const uint8_t *data, size_t length);
-    } commands[] = {{"list", list}, {"run", list_run}, {"show", show_all}};
+    } commands[] = {{"list", list}, {"run", list_run}, {"show", show_all}, {"cut", NULL}};
     setlocale(LC_CTYPE, "");
     for (int i = 1; i < count; i++)
         if (strcmp(words[i], "--help") == 0) {
@@ -233,10 +270,10 @@ int main(int count, char **words)
             return fflush(stdout) == 0 ? ACCEPTED : TROUBLE;
         }
     if (count < 2)
-        return usage("list, run or show is missing", "");
+        return usage("list, run, show or cut is missing", "");
     for (size_t i = 0; i < sizeof commands / sizeof *commands; i++)
         if (strcmp(words[1], commands[i].name) == 0) {
-            struct work w = {.each = commands[i].each, .port = 6343, .most = TEXT_SHORT};
+            struct work w = {.each = commands[i].each, .cuts = commands[i].each == NULL, .port = 6343, .most = TEXT_SHORT};
             return with(&w, words + 2);
         }
     return usage("there is no command ", words[1]);

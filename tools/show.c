@@ -84,7 +84,7 @@ void show_refusal(const struct shown *s, unsigned long number, size_t from, cons
     if (answer->code == LATCHPLUME_INPUT_LENGTH)
         return;
     uint32_t start = (uint32_t)from, length = (uint32_t)(s->length - from);
-    uint32_t all[LATCHPLUME_DESCRIPTOR_WORDS] = {LATCHPLUME_DATAGRAM, 0, start, length, LATCHPLUME_NOBODY, 0};
+    uint32_t all[LATCHPLUME_DESCRIPTOR_WORDS] = {LATCHPLUME_DATAGRAM, 0, start, length, LATCHPLUME_NOBODY, 0, start};
     if (latchplume_read_header(s->data, s->length, all).outcome.code == LATCHPLUME_ACCEPTED)
         fields(s, all, layout_of(LATCHPLUME_DATAGRAM, 0));
     text_around(1, s->data, s->length, from + answer->at);

@@ -11,12 +11,16 @@ import sys
 ROOT = os.path.dirname(os.path.dirname(os.path.dirname(os.path.abspath(__file__))))
 sys.path.insert(0, os.path.join(ROOT, "tests", "host"))
 import building
-from encoder import LAYOUTS, pads
+from encoder import DESCRIPTOR_WORDS, LAYOUTS, pads
 
 # the layout of a kind and a format, as a name and its fields, each with its shape
 BY_FORMAT = {row[:2]: name for name, row in LAYOUTS.items()}
 SHAPES = {name: [(field, shape or "plain") for field, _, shape in (one.partition(":") for one in row[2].split())]
           for name, row in LAYOUTS.items()}
+
+# the words of a descriptor, as the listing names them
+WORDS = ("kind", "format", "start", "length", "parent", "depth", "first")
+ROW = re.compile(r" (\d+(?:,\d+){%d})" % (DESCRIPTOR_WORDS - 1))
 
 Answer = collections.namedtuple("Answer", "code at steps needed rows")
 Place = collections.namedtuple("Place", "kind format parent depth")
@@ -47,21 +51,20 @@ def called(lines, **more):
 
 def answer_of(line):
     numbers = {key: int(value) for key, value in re.findall(r"\b(code|at|steps|needed)=(\d+)", line)}
-    rows = [tuple(map(int, row.split(","))) for row in re.findall(r" (\d+(?:,\d+){5})", line)]
+    rows = [tuple(map(int, row.split(","))) for row in ROW.findall(line)]
     return Answer(**numbers, rows=rows)
 
 
 def decoded(inputs, call="decode", **more):
     """The library's answers; an input is hex, or HEX*N where zeros fill it up to N bytes. The store has room for 4,096 descriptors."""
-    lines = (line for one in inputs for line in (f"data {one or '-'}", f"{call} 24576"))
+    lines = (line for one in inputs for line in (f"data {one or '-'}", f"{call} {4096 * DESCRIPTOR_WORDS}"))
     return [answer_of(line) for line in called(lines, **more)]
 
 
 def listing_of(answer):
     """What the listing program must print for an answer."""
-    names = ("kind", "format", "start", "length", "parent", "depth")
     lines = [f"code={answer.code} at={answer.at} steps={answer.steps} descriptors={answer.needed}"]
-    lines += [" ".join(f"{name}={value}" for name, value in zip(names, row)) for row in answer.rows]
+    lines += [" ".join(f"{name}={value}" for name, value in zip(WORDS, row)) for row in answer.rows]
     return "".join(line + "\n" for line in lines)
 
 
@@ -111,7 +114,7 @@ def ours(datagrams):
 
 
 def node_of(data, row, printed):
-    kind, form, start, length, parent, depth = row
+    kind, form, start, length, parent, depth, _ = row
     name, place = BY_FORMAT.get((kind, form)), Place(kind, form, parent, depth)
     if not name:
         return Node(place, raw=data[start:start + length])

@@ -1,8 +1,9 @@
-"""The stored listings, each beside its datagram, against the listing program of today and the library."""
+"""The stored listings, each beside its datagram, against the listing program of today, the library, and the model of document 01."""
 import glob
 import os
 
 import figures
+import model
 
 
 class Capture:
@@ -54,3 +55,4 @@ def check(checks, captures):
     for one, answer in zip(captures, answers):
         checks.same(f"{one.name}: the listing program", one.stored, figures.text_of("listing", one.data))
         checks.same(f"{one.name}: the library", one.stored, figures.listing_of(answer))
+        checks.same(f"{one.name}: document 01, as the model reads it", one.stored, figures.listing_of(model.read(one.data)))

@@ -1,4 +1,5 @@
-"""Document 01's reading of one datagram, in Python; and, one at a time, the faults that other decoders have had."""
+"""Document 01's reading of one datagram, with the first bytes of document 02's §6, in Python; and, one at a time, the faults that other decoders
+have had."""
 from encoder import MAX_INPUT, MAX_OPAQUE, NOBODY, pads
 from figures import BY_FORMAT, SHAPES, Answer
 
@@ -91,11 +92,12 @@ class Reader:
 
     def frame(self, kind, end, parent, depth):
         """A format word and an opaque; what is in it is read, and what is left of it is stepped over."""
+        first = self.at
         form = self.word(end)
         start, length = self.opaque(end)
         behind, stop = self.at, start + length
         index = len(self.rows)
-        self.rows.append((kind, form, start, length, parent, depth))
+        self.rows.append((kind, form, start, length, parent, depth, first))
         name = BY_FORMAT.get((kind, form & 0xfff if self.fault == MASKED else form))
         if not name:
             if self.fault == UNKNOWN:
@@ -124,11 +126,12 @@ class Reader:
             self.frame(kind, len(self.data) if self.fault == SAMPLE else end, parent, depth)
 
     def pdu(self, end, parent, depth):
+        first = self.at
         count = self.word(end)
         index, start = len(self.rows), self.at
         self.rows.append(None)
         self.records(count, 2, end, index, depth + 1)
-        self.rows[index] = (4, 0, start, self.at - start, parent, depth)
+        self.rows[index] = (4, 0, start, self.at - start, parent, depth, first)
 
     def datagram(self):
         self.rows.append(None)
@@ -139,7 +142,7 @@ class Reader:
             self.frame(1, len(self.data), 0, 0)
         if self.fault == EXTRA and self.at != len(self.data):
             raise Refused(2, self.at)
-        self.rows[0] = (0, 0, 0, self.at, NOBODY, 0)
+        self.rows[0] = (0, 0, 0, self.at, NOBODY, 0, 0)
 
 
 def is_utf8(text):

@@ -34,7 +34,7 @@ def same_fault(one, reading):
 
 def not_stepped_over(one, reading, key, ours, theirs):
     """From such a record's payload to the end of its sample; to the end of all where tshark then finds a fault."""
-    for kind, _, start, _, parent, _ in one.rows:
+    for kind, _, start, _, parent, *_ in one.rows:
         if kind == 3 and start - 8 in reading.unknown:
             end = len(one.data) if reading.malformed else sum(one.rows[parent][2:4])
             if start <= key[0] < end or key == ACCEPTED and reading.malformed:

@@ -16,7 +16,7 @@ long write(int file, const void *from, size_t count);
 #error "where this processor has its stack pointer is not known here"
 #endif
 
-enum { BYTES = 1 << 20, WORDS = 6 << 18, SPARE = 12 };
+enum { BYTES = 1 << 20, WORDS = LATCHPLUME_STORE_WORDS(BYTES), SPARE = 2 * LATCHPLUME_DESCRIPTOR_WORDS };
 static const uint32_t FILL = 0xa5a5a5a5u;
 static const uint64_t PAINT = 0x5a3c5a3c5a3c5a3cu;
 /* in words of eight bytes: how deep is looked, and what a compiler may use below the stack pointer without moving it */

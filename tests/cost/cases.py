@@ -1,14 +1,15 @@
 """Calls, and what document 01 has them answer and leave in the store: each expected word is the document's own, or follows from its rule
-for descriptors."""
+for descriptors and, for the first byte, from §6 of document 02."""
 from collections import namedtuple
 
 from long import LONG
-from shapes import CUT_KINDS, EVERY_KIND, IPV6, P2, P3, P4, P6, P7, P9, P11, P12, P12_DEEPER, P13, words
+from shapes import CUT_KINDS, EVERY_KIND, IPV6, P2, P3, P4, P6, P7, P9, P11, P12, P12_DEEPER, P13, counter_sample, frame, header, words
 
 NOBODY = 4294967295
+DESCRIPTOR_WORDS = 7
 # as answers.c has them: what the store holds before a call, and how many words behind it are shown too
 FILL = 0xA5A5A5A5
-SPARE = 12
+SPARE = 2 * DESCRIPTOR_WORDS
 NO_HEADER = (0, bytes(16), 0, 0, 0, 0)
 
 # what is expected is a Shown; None stands for anything
@@ -20,10 +21,10 @@ Session = namedtuple("Session", "data header at steps rows")
 
 def nested(count):
     """The descriptors of so many aggregations, each in the other's PDU."""
-    rows = [(0, 0, 0, 64 + 16 * count, NOBODY, 0), (1, 1, 32, 32 + 16 * count, 0, 0)]
+    rows = [(0, 0, 0, 64 + 16 * count, NOBODY, 0, 0), (1, 1, 32, 32 + 16 * count, 0, 0, 24)]
     for depth in range(1, count + 1):
         start, inside, record = 56 + 16 * depth, 16 * (count - depth), 2 * depth
-        rows += [(2, 1016, start, 8 + inside, record - 1, depth), (4, 0, start + 8, inside, record, depth)]
+        rows += [(2, 1016, start, 8 + inside, record - 1, depth, start - 8), (4, 0, start + 8, inside, record, depth, start + 4)]
     return rows
 
 
@@ -31,11 +32,13 @@ def of_h(samples):
     return (0, bytes(16), 0, 1, 0, samples)
 
 
-S2 = Session(P2, of_h(0), 24, 6, [(0, 0, 0, 24, NOBODY, 0)])
-S9 = Session(P9, of_h(1), 44, 11, [(0, 0, 0, 44, NOBODY, 0), (1, 2, 32, 12, 0, 0)])
+S2 = Session(P2, of_h(0), 24, 6, [(0, 0, 0, 24, NOBODY, 0, 0)])
+S9 = Session(P9, of_h(1), 44, 11, [(0, 0, 0, 44, NOBODY, 0, 0), (1, 2, 32, 12, 0, 0, 24)])
 S11 = Session(P11, of_h(1), 80, 20, nested(1))
 S12 = Session(P12, of_h(1), 192, 48, nested(8))
-WITH_ADDRESS = Session(words(5) + IPV6 + words(7, 8, 9, 0), (2, bytes(range(16)), 7, 8, 9, 0), 40, 7, [(0, 0, 0, 40, NOBODY, 0)])
+WITH_ADDRESS = Session(words(5) + IPV6 + words(7, 8, 9, 0), (2, bytes(range(16)), 7, 8, 9, 0), 40, 7, [(0, 0, 0, 40, NOBODY, 0, 0)])
+WITH_COUNTERS = Session(header(1) + counter_sample(2, 2 * frame(4097, b"\1")), of_h(1), 68, 15, [
+    (0, 0, 0, 68, NOBODY, 0, 0), (1, 2, 32, 36, 0, 0, 24), (3, 4097, 52, 1, 1, 1, 44), (3, 4097, 64, 1, 1, 1, 56)])
 
 # a malformed datagram, its code, position and steps
 MALFORMED = [(P3, 3, 0, 0), (P4, 4, 4, 1), (P6, 2, 28, 7), (P7, 5, 28, 7), (P12_DEEPER, 8, 192, 48), (P13, 6, 72, 18)]
@@ -55,22 +58,22 @@ def with_rooms(group, call, session, rooms):
     """The call with a store of each of these lengths."""
     needed = len(session.rows)
     for room in rooms:
-        if room // 6 >= needed:
+        if room // DESCRIPTOR_WORDS >= needed:
             yield Case(group, call, session.data, room, accepted(session, call, room))
         else:
             yield Case(group, call, session.data, room, unwritten(9, 0, session.steps, needed, room))
 
 
 def edges(call):
-    for session in (S2, S9, S11, S12, WITH_ADDRESS):
-        edge = 6 * len(session.rows)
+    for session in (S2, S9, S11, S12, WITH_ADDRESS, WITH_COUNTERS):
+        edge = DESCRIPTOR_WORDS * len(session.rows)
         rooms = {*range(31), *range(max(0, edge - 8), edge + 9)}
         yield from with_rooms("stores of 0 to 30 words, and of 8 less to 8 more than what is needed", call, session, sorted(rooms))
 
 
 def malformed(call):
     group = "a malformed datagram, whatever the store"
-    for room in (0, 5, 6, 600):
+    for room in (0, DESCRIPTOR_WORDS - 1, DESCRIPTOR_WORDS, 600):
         for data, code, at, steps in MALFORMED:
             # code 2 ends a run, which then has no datagram
             ends = call == "run" and code == 2
@@ -84,9 +87,9 @@ def sum_of_run():
     rows = list(S9.rows)
     for session, start in ((S2, 44), (S11, 68)):
         index = len(rows)
-        rows += [(k, f, at + start, n, p if p == NOBODY else p + index, d) for k, f, at, n, p, d in session.rows]
+        rows += [(k, f, at + start, n, p if p == NOBODY else p + index, d, first + start) for k, f, at, n, p, d, first in session.rows]
     three = Session(P9 + P2 + P11, NO_HEADER, 148, 37, rows)
-    return with_rooms("a run whose sum does not fit, and one that just does", "run", three, range(55))
+    return with_rooms("a run whose sum does not fit, and one that just does", "run", three, range(DESCRIPTOR_WORDS * (len(rows) + 2)))
 
 
 def deep(call):
@@ -99,11 +102,12 @@ def deep(call):
 def long():
     for _, call, code, shape in LONG:
         data = shape(16384)
-        yield Case("inputs of one shape, 16 KiB each", call, data, len(data) // 4 * 6, Shown(code, len(data), None, None, None, None))
+        room = len(data) // 4 * DESCRIPTOR_WORDS
+        yield Case("inputs of one shape, 16 KiB each", call, data, room, Shown(code, len(data), None, None, None, None))
 
 
 def all_cases():
-    yield from with_rooms("P11 with a store for three descriptors: code 9, needed 4, 20 steps", "decode", S11, [18])
+    yield from with_rooms("P11 with a store for three descriptors: code 9, needed 4, 20 steps", "decode", S11, [3 * DESCRIPTOR_WORDS])
     for call in ("decode", "run"):
         yield from edges(call)
         yield from malformed(call)

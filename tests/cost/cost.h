@@ -5,7 +5,7 @@
 
 #include "latchplume.h"
 
-enum { MIB = 1 << 20, MOST = 16 * MIB, WORDS = MIB / 4 * 6 };
+enum { MIB = 1 << 20, MOST = 16 * MIB, WORDS = LATCHPLUME_STORE_WORDS(MIB) };
 
 static inline int stop(const char *said) {
     fprintf(stderr, "%s\n", said);
@@ -28,6 +28,6 @@ static inline int is_run(const char *name) {
 }
 
 static inline latchplume_answer call(int run, const uint8_t *data, size_t length, uint32_t *store) {
-    size_t words = length / 4 * 6;
+    size_t words = LATCHPLUME_STORE_WORDS(length);
     return run ? latchplume_decode_run(data, length, store, words) : latchplume_decode(data, length, store, words).answer;
 }

@@ -4,8 +4,9 @@
  *     data HEX[*N]           the input from here on, filled up with zeros to N bytes; - is NULL and 0
  *     decode WORDS           latchplume_decode with a store of so many words
  *     run WORDS              latchplume_decode_run
- *     read NAME D D D D D D  latchplume_read_NAME with this descriptor
- *     payload D D D D D D    latchplume_payload
+ *     read NAME D..          latchplume_read_NAME with this descriptor, word for word
+ *     payload D..            latchplume_payload
+ *     whole D..              latchplume_whole
  *     word START COUNT N     latchplume_list_word
  *     segment AT             latchplume_next_segment
  *     split WORD             the inline functions of the header
@@ -113,7 +114,7 @@ static void end_store(struct store *s, const latchplume_answer *a)
     size_t used = a->code == LATCHPLUME_ACCEPTED ? LATCHPLUME_DESCRIPTOR_WORDS * a->needed : 0;
     size_t changed = 0;
     for (size_t i = 0; i < used && i < s->count; i++)
-        printf("%s%" PRIu32, i % 6 ? "," : " ", s->words[i]);
+        printf("%s%" PRIu32, i % LATCHPLUME_DESCRIPTOR_WORDS ? "," : " ", s->words[i]);
     for (size_t i = used; i < s->count; i++)
         changed += s->words[i] != mark(i);
     printf(" changed=%zu\n", changed);
@@ -210,6 +211,12 @@ static void do_payload(char **words)
     printf("payload %zu+%zu\n", got.start, got.count);
 }
 
+static void do_whole(char **words)
+{
+    latchplume_span got = latchplume_whole(data, length, descriptor(words));
+    printf("whole %zu+%zu\n", got.start, got.count);
+}
+
 static size_t size(const char *word)
 {
     return (size_t)strtoull(word, NULL, 10);
@@ -230,7 +237,7 @@ static void do_segment(char **words)
 
 static void do_split(char **words)
 {
-    uint32_t word = (uint32_t)size(words[0]), whole[LATCHPLUME_DESCRIPTOR_WORDS] = {0, word, 0, 0, 0, 0};
+    uint32_t word = (uint32_t)size(words[0]), whole[LATCHPLUME_DESCRIPTOR_WORDS] = {0, word};
     latchplume_data_format format = latchplume_format_of(whole);
     latchplume_data_source source = {word};
     latchplume_interface in = {word};
@@ -241,15 +248,16 @@ static void do_split(char **words)
 
 static void do_line(char *line)
 {
+    enum { DESCRIPTOR = LATCHPLUME_DESCRIPTOR_WORDS, MOST = DESCRIPTOR + 3 };
     static const struct {
         const char *name;
         size_t words;
         void (*call)(char **words);
-    } calls[] = {{"decode", 1, do_decode}, {"run", 1, do_run}, {"read", 7, do_read}, {"payload", 6, do_payload},
-                 {"word", 3, do_word}, {"segment", 1, do_segment}, {"split", 1, do_split}};
-    char *words[9] = {0};
+    } calls[] = {{"decode", 1, do_decode}, {"run", 1, do_run}, {"read", 1 + DESCRIPTOR, do_read}, {"payload", DESCRIPTOR, do_payload},
+                 {"whole", DESCRIPTOR, do_whole}, {"word", 3, do_word}, {"segment", 1, do_segment}, {"split", 1, do_split}};
+    char *words[MOST] = {0};
     size_t count = 0;
-    for (char *w = strtok(line, " \n"); w && count < 9; w = strtok(NULL, " \n"))
+    for (char *w = strtok(line, " \n"); w && count < MOST; w = strtok(NULL, " \n"))
         words[count++] = w;
     if (count == 2 && strcmp(words[0], "data") == 0) {
         set_data(words[1]);

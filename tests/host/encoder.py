@@ -4,6 +4,7 @@ The values that it puts in are the values that are expected back; no code of the
 import struct
 
 NOBODY = 4294967295
+DESCRIPTOR_WORDS = 7
 MAX_INPUT = 16777216
 MAX_OPAQUE = 104857600
 
@@ -216,13 +217,13 @@ class Wire:
         self.steps += 2
         row, start = len(self.rows), len(self.data)
         self.rows.append(None)
-        self.rows[row] = (kind, form, start, 0, parent, depth)
+        self.rows[row] = (kind, form, start, 0, parent, depth, begin)
         left_over = fill(row)
         self.data += self.rng.randbytes(left_over or 0)
         length = len(self.data) - start
         self.data[start - 4:start] = word(length)
         self.data += self.rng.randbytes(pads(length))
-        self.rows[row] = (kind, form, start, length, parent, depth)
+        self.rows[row] = (kind, form, start, length, parent, depth, begin)
         if kind == 1:
             self.outer += [(begin, begin + 4, before), (begin + 4, len(self.data), before + 1)]
 
@@ -242,13 +243,14 @@ class Wire:
         def fill(row):
             self.body(row, Body("extended_80211_aggregation", self.rng, pdu_count=len(pdus)))
             for records in pdus:
+                begin = len(self.data)
                 self.data += word(len(records))
                 self.steps += 1
                 pdu, start = len(self.rows), len(self.data)
                 self.rows.append(None)
                 for put in records:
                     put(pdu, depth + 1)
-                self.rows[pdu] = (4, 0, start, len(self.data) - start, row, depth)
+                self.rows[pdu] = (4, 0, start, len(self.data) - start, row, depth, begin)
         self.enclosed(2, 1016, parent, depth, fill)
 
     def sample(self, parent, name, puts, left_over=0, **given):
@@ -263,12 +265,12 @@ class Wire:
     def datagram(self, puts, **given):
         """A datagram and its samples: functions that put a sample, given its parent."""
         row, start = len(self.rows), len(self.data)
-        self.rows.append((0, 0, start, 0, NOBODY, 0))
+        self.rows.append((0, 0, start, 0, NOBODY, 0, start))
         head = Body("header", self.rng, num_samples=len(puts), **given)
         self.body(row, head)
         for put in puts:
             put(row)
-        self.rows[row] = (0, 0, start, len(self.data) - start, NOBODY, 0)
+        self.rows[row] = (0, 0, start, len(self.data) - start, NOBODY, 0, start)
         return head
 
     def put_record(self, body, left_over=0):

@@ -1,4 +1,5 @@
-"""The example in the header's first comment, taken out of it, and examples/first.c: compiled, linked and run."""
+"""The example in the header's first comment, taken out of it, examples/first.c and examples/relay.c: compiled, linked and run. And what README.md shows,
+word for word."""
 import re
 import subprocess
 
@@ -69,10 +70,16 @@ def check_header(checks, rng):
             checks.same(f"the header's example, {words[1]}", expected, ran.stdout.decode())
 
 
+def example(name):
+    """The program of an example's name."""
+    program, source = building.made(name), building.at("examples", name + ".c")
+    building.run(["gcc", "-std=c99", "-pedantic", *building.WARNINGS, "-I" + building.at("include"), source, building.LIBRARY, "-o", program])
+    return program
+
+
 def check_first(checks, rng):
     """A user's first program: a sampled header's bytes, and an SSID whose control character does not get through."""
-    program = building.made("first")
-    building.run(["gcc", "-std=c99", "-pedantic", *building.WARNINGS, "-I" + building.at("include"), building.at("examples", "first.c"), building.LIBRARY, "-o", program])
+    program = example("first")
     packet, wire = captures.ethernet(captures.ipv4(b"first")), encoder.Wire(rng)
     bodies = encoder.Body("sampled_header", rng, header=packet), encoder.Body("extended_80211_rx", rng, ssid="guest\x1b[2J")
     wire.datagram([wire.put_sample("flow_sample", [wire.put_record(body) for body in bodies])])
@@ -81,6 +88,42 @@ def check_first(checks, rng):
         checks.same("examples/first.c", expected, ran.stdout.decode())
 
 
+def check_relay(checks, rng):
+    """A relay's records are the bytes that were put in, with format word, length word and pad, and those of one depth alone."""
+    program = example("relay")
+    for _ in range(20):
+        wire, _ = encoder.any_datagram(rng)
+        records = [tool_checks.whole_of(wire.data, row) for row in wire.rows if row[0] == 2 and row[5] == 1]
+        ran = subprocess.run([program], input=bytes(wire.data), capture_output=True)
+        checks.same("examples/relay.c", (0, b"".join(records), b""), (ran.returncode, ran.stdout, ran.stderr))
+    ran = subprocess.run([program], input=encoder.word(4), capture_output=True)
+    checks.same("examples/relay.c: a refusal", (1, b"", b"refused with code 3 at byte 0\n"), (ran.returncode, ran.stdout, ran.stderr))
+
+
+def sessions(text):
+    """Each command that an indented `$` shows, with the lines below it."""
+    for shown in re.findall(r"^    \$ (.*\n(?:    (?!\$ ).*\n)*)", text, re.M):
+        command, *lines = shown.splitlines()
+        yield command, "".join(line[4:] + "\n" for line in lines)
+
+
+def check_readme(checks):
+    """Its commands print what it says, and its loops stand in the examples as they stand there."""
+    with open(building.at("README.md")) as f:
+        text = f.read()
+    found = list(sessions(text))
+    checks.holds("README.md shows commands with what they print", found)
+    for command, expected in found:
+        ran = subprocess.run(command, shell=True, cwd=building.ROOT, capture_output=True, text=True)
+        checks.same(f"README.md: {command}", (expected, ""), (ran.stdout, ran.stderr))
+    with open(building.at("examples", "relay.c")) as f:
+        relay = [line.strip() for line in f]
+    loop = [line.strip() for line in next(block for block in re.findall(r"```c\n(.*?)```", text, re.S) if "latchplume_whole" in block).splitlines()]
+    checks.holds("README.md: the relay's loop is that of examples/relay.c", any(relay[i:i + len(loop)] == loop for i in range(len(relay))))
+
+
 def check_all(checks, rng):
     check_header(checks, rng)
     check_first(checks, rng)
+    check_relay(checks, rng)
+    check_readme(checks)

@@ -5,7 +5,7 @@ import subprocess
 
 import building
 import encoder
-from encoder import Body, LAYOUTS, MAX_INPUT, NOBODY, RECORDS, SAMPLES, Wire
+from encoder import Body, DESCRIPTOR_WORDS, LAYOUTS, MAX_INPUT, NOBODY, RECORDS, SAMPLES, Wire, pads
 
 NO_ADDRESS = "0/" + "00" * 16
 NO_HEADER = f" agent_address={NO_ADDRESS} sub_agent_id=0 sequence_number=0 uptime=0 num_samples=0"
@@ -51,6 +51,9 @@ class Script:
     def payload(self, row, start, count):
         self.ask("payload", "payload " + " ".join(map(str, row)), f"payload {start}+{count}")
 
+    def whole(self, row, start, count):
+        self.ask("whole", "whole " + " ".join(map(str, row)), f"whole {start}+{count}")
+
     def word(self, start, count, n, value):
         answer = "present=0 value=0" if value is None else f"present=1 value={value}"
         self.ask("word", f"word {start} {count} {n}", f"word {answer}")
@@ -77,7 +80,7 @@ def body_checks(s, body, row, base):
 def whole_datagrams(s, rng, count):
     for _ in range(count):
         wire, head = encoder.any_datagram(rng)
-        room = 6 * len(wire.rows)
+        room = DESCRIPTOR_WORDS * len(wire.rows)
         s.data(wire.data)
         s.decoded(wire, head, room)
         s.decoded(wire, head, room + rng.randint(1, 40))
@@ -85,6 +88,7 @@ def whole_datagrams(s, rng, count):
         s.ran(room, 0, len(wire.data), wire.steps, len(wire.rows), wire.rows)
         for row in wire.rows:
             s.payload(row, row[2], row[3])
+            s.whole(row, row[6], row[2] + row[3] + pads(row[3]) - row[6])
         for row, body, base, _ in wire.bodies:
             body_checks(s, body, wire.rows[row], base)
         s.data(wire.data + rng.randbytes(rng.randint(1, 9)))
@@ -108,8 +112,8 @@ def runs(s, rng, count):
             encoder.any_datagram(rng, wire)
             ends.append((len(wire.data), wire.steps, len(wire.rows)))
         s.data(wire.data)
-        s.ran(6 * len(wire.rows) + 3, 0, len(wire.data), wire.steps, len(wire.rows), wire.rows)
-        s.ran(6 * len(wire.rows) - 1, 9, 0, wire.steps, len(wire.rows))
+        s.ran(DESCRIPTOR_WORDS * len(wire.rows) + 3, 0, len(wire.data), wire.steps, len(wire.rows), wire.rows)
+        s.ran(DESCRIPTOR_WORDS * len(wire.rows) - 1, 9, 0, wire.steps, len(wire.rows))
         for length in rng.sample(range(len(wire.data)), 12):
             end, _, rows = [e for e in ends if e[0] <= length][-1]
             stopped = next(item for item in wire.outer if item[1] > length)
@@ -184,13 +188,13 @@ def too_deep(s, rng):
         for _ in range(8):
             put = wire.put_aggregation([[put]])
         wire.datagram([wire.put_sample("flow_sample", [put])])
-        depth, start = wire.rows[-1][5], wire.rows[-1][2] - 8
+        depth, start = wire.rows[-1][5], wire.rows[-1][6]
         assert depth == 9
         s.data(wire.data)
         s.refused(6000, 8, start, wire.steps - 2)
     wire = encoder.of_one_record(rng, Body("extended_80211_rx", rng), depth=8)
     s.data(wire.data)
-    s.decoded(wire, wire.bodies[0][1], 6 * len(wire.rows))
+    s.decoded(wire, wire.bodies[0][1], DESCRIPTOR_WORDS * len(wire.rows))
 
 
 def longest(s, rng):
@@ -206,9 +210,10 @@ def longest(s, rng):
     s.ran(12, 1, 0, 0, 0)
     for name, (kind, form, _) in LAYOUTS.items():
         body = Body(name, rng)
-        s.read_refused(body, (kind, form, 0, 24, 0, 0), 1)
-        s.read_refused(body, (kind + 9, form, NOBODY, 24, 0, 0), 1)
+        s.read_refused(body, (kind, form, 0, 24, 0, 0, 0), 1)
+        s.read_refused(body, (kind + 9, form, NOBODY, 24, 0, 0, 0), 1)
     s.payload(wire.rows[0], 0, 0)
+    s.whole(wire.rows[0], 0, 0)
     s.segment(0, 1, 0, 0)
     s.word(0, 1, 0, 5)
 
@@ -222,11 +227,12 @@ def nothing(s, rng):
     s.ran(12, 0, 0, 0, 0)
     for name, (kind, form, _) in LAYOUTS.items():
         body = Body(name, rng)
-        s.read_refused(body, (kind, form, 0, 0, 0, 0), 2, 0, 0)
-        s.read_refused(body, (kind, form, 1, 0, 0, 0), 10)
-        s.read_refused(body, (kind + 1, form, 0, 0, 0, 0), 11)
-    s.payload((0, 0, 0, 0, 0, 0), 0, 0)
-    s.payload((0, 0, 0, 1, 0, 0), 0, 0)
+        s.read_refused(body, (kind, form, 0, 0, 0, 0, 0), 2, 0, 0)
+        s.read_refused(body, (kind, form, 1, 0, 0, 0, 0), 10)
+        s.read_refused(body, (kind + 1, form, 0, 0, 0, 0, 0), 11)
+    for length in (0, 1):
+        s.payload((0, 0, 0, length, 0, 0, 0), 0, 0)
+        s.whole((0, 0, 0, length, 0, 0, 0), 0, 0)
     s.word(0, 0, 0, None)
     s.word(0, 1, 0, None)
     s.segment(0, 2, 0, 0)
@@ -247,15 +253,28 @@ def ranges_and_kinds(s, rng):
         past = [(size, 1), (size + 1, 0), (0, size + 1), (1, size)]
         past += [(NOBODY, 1), (NOBODY, NOBODY), (1, NOBODY), (half, half), (NOBODY - 3, 4 + size)]
         for start, length in past:
-            s.read_refused(body, (kind, form, start, length, 0, 0), 10)
-            s.read_refused(body, (kind + 1, form + 1, start, length, 0, 0), 10)
-            s.payload((kind, form, start, length, 0, 0), 0, 0)
+            s.read_refused(body, (kind, form, start, length, 0, 0, 0), 10)
+            s.read_refused(body, (kind + 1, form + 1, start, length, 0, 0, 0), 10)
+            s.payload((kind, form, start, length, 0, 0, 0), 0, 0)
+            s.whole((kind, form, start, length, 0, 0, 0), 0, 0)
         for other, (other_kind, other_form, _) in LAYOUTS.items():
             if other != name:
-                s.read_refused(body, (other_kind, other_form, 0, size, 0, 0), 11)
+                s.read_refused(body, (other_kind, other_form, 0, size, 0, 0, 0), 11)
         for wrong in ((kind, form + (1 << 12)), (kind, form | half), (kind + 1, form), (4, 0), (3, form), (kind + 256, form), (NOBODY, form)):
-            s.read_refused(body, (*wrong, 0, size, 0, 0), 11)
-        s.read_whole(body, (kind, form, 0, size, rng.getrandbits(32), rng.getrandbits(32)), 0)
+            s.read_refused(body, (*wrong, 0, size, 0, 0, 0), 11)
+        s.read_whole(body, (kind, form, 0, size, *(rng.getrandbits(32) for _ in range(3))), 0)
+
+
+def wholes(s, rng):
+    """All of what some descriptor stands for: from its first byte to the pad's end, where the input has all of that."""
+    size = 40
+    s.data(rng.randbytes(size))
+    for start in (0, 1, 8, size - 4, size, size + 1, NOBODY):
+        for length in (0, 1, 3, 4, size - 8, size - 7, NOBODY):
+            for first in {0, max(0, start - 8), start, min(NOBODY, start + 1), NOBODY}:
+                end = start + length + pads(length)
+                there = first <= start and end <= size
+                s.whole((2, 1, start, length, 0, 1, first), *((first, end - first) if there else (0, 0)))
 
 
 def words_and_segments(s, rng):
@@ -296,7 +315,7 @@ def script(count):
     whole_datagrams(s, rng, count)
     cut_datagrams(s, rng, max(2, count // 20))
     runs(s, rng, max(4, count // 5))
-    for part in (faults, cut_layouts, too_deep, longest, nothing, ranges_and_kinds, words_and_segments, splits):
+    for part in (faults, cut_layouts, too_deep, longest, nothing, ranges_and_kinds, wholes, words_and_segments, splits):
         part(s, rng)
     return s
 
@@ -319,7 +338,7 @@ def codes_met(checks, s):
     met = {int(m) for line in s.expected for m in re.findall(r"code=(\d+)", line)}
     checks.same("codes that are met", set(range(12)), met)
     called = {"decode": "latchplume_decode", "run": "latchplume_decode_run", "payload": "latchplume_payload",
-              "word": "latchplume_list_word", "segment": "latchplume_next_segment"}
+              "whole": "latchplume_whole", "word": "latchplume_list_word", "segment": "latchplume_next_segment"}
     names = {called.get(group, "latchplume_read_" + group) for group in s.groups if group != "split"}
     checks.same("functions that are called", building.declared(), sorted(names))
 

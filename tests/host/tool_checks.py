@@ -13,7 +13,7 @@ import trees
 
 # a datagram without samples, and its listing
 SHORT = encoder.word(5) + encoder.word(0) * 5
-SHORT_LISTED = "code=0 at=24 steps=6 descriptors=1\nkind=0 format=0 start=0 length=24 parent=4294967295 depth=0\n"
+SHORT_LISTED = "code=0 at=24 steps=6 descriptors=1\nkind=0 format=0 start=0 length=24 parent=4294967295 depth=0 first=0\n"
 USAGE = "; latchplume --help tells how it is used"
 
 
@@ -23,10 +23,10 @@ class Tool:
     def __init__(self, checks, room, program):
         self.checks, self.room, self.program = checks, room, program
 
-    def run(self, *words, data=b"", locale="C.UTF-8"):
+    def run(self, *words, data=b"", locale="C.UTF-8", raw=False):
         environment = {**os.environ, "LC_ALL": locale, **building.ENVIRONMENT}
         ran = subprocess.run([self.program, *words], input=data, capture_output=True, env=environment, cwd=self.room)
-        return ran.returncode, ran.stdout.decode(), ran.stderr.decode()
+        return ran.returncode, ran.stdout if raw else ran.stdout.decode(), ran.stderr.decode()
 
     def file(self, name, data):
         with open(os.path.join(self.room, name), "wb") as f:
@@ -116,8 +116,12 @@ def troubles(tool):
 def usages(tool):
     port = "--port takes a number from 1 to 65535"
     for words, said in (
-        ("", "list, run or show is missing"), ("list", "a file is missing"), ("look one", "there is no command look"),
+        ("", "list, run, show or cut is missing"), ("list", "a file is missing"), ("look one", "there is no command look"),
         ("list one two", "one file at a time, and here is another: two"), ("show --prot 1 one", "there is no option --prot"),
+        ("cut one", "the index of a descriptor is missing"), ("cut one -1", "there is no option -1"),
+        ("cut one 0x1", "an index is a number from 0 on, and not 0x1"), ("cut one 0 1", "one file at a time, and here is another: 1"),
+        ("cut one " + "9" * 30, "an index is a number from 0 on, and not " + "9" * 30), ("list --packet 1 one", "there is no option --packet"),
+        ("cut --packet 0 one 0", "--packet takes a number from 1 on"), ("cut one 0 --packet", "--packet takes a number from 1 on"),
         ("show one --port", port), ("show --port 65536 one", port), ("show --port 0 one", port), ("show --port 6x one", port),
     ):
         tool.same("usage", (2, "", f"latchplume: {said}{USAGE}\n"), *words.split())
@@ -158,6 +162,62 @@ def trees_shown(tool, rng):
         out = tool.run("show", tool.file("tree", wire.data))[1]
         for line in lines:
             tool.checks.same(f"show {name}: {line}", True, line in [one.strip() for one in out.split("\n")])
+
+
+def whole_of(data, row):
+    """The bytes of a descriptor, from its first byte to the end of its pad."""
+    return bytes(data[row[6]:row[2] + row[3] + encoder.pads(row[3])])
+
+
+def cuts(tool, rng):
+    """cut writes each descriptor's bytes as the encoder put them in, of one datagram and of several."""
+    for number in range(12):
+        wire, _ = encoder.any_datagram(rng)
+        for _ in range(number % 3):
+            encoder.any_datagram(rng, wire)
+        behind = rng.randbytes(rng.randint(1, 3))
+        tool.file("several", wire.data + behind)
+        for index, row in enumerate(wire.rows):
+            tool.same("its bytes", (0, whole_of(wire.data, row), ""), "cut", "several", str(index), raw=True)
+        said = f"latchplume: several: has no descriptor {len(wire.rows)}: the last one is {len(wire.rows) - 1}\n"
+        tool.same("past the last", (2, b"", said), "cut", "several", str(len(wire.rows)), raw=True)
+
+
+def cuts_read_back(tool, rng):
+    """A record that was cut out, as the one record of a sample that is made here, shows the same fields."""
+    for name in encoder.RECORDS:
+        body = encoder.Body(name, rng)
+        wire = encoder.of_one_record(rng, body, depth=rng.randint(1, 8))
+        status, cut, said = tool.run("cut", tool.file("one", wire.data), str(len(wire.rows) - 1), raw=True)
+        tool.checks.same(f"cut {name}: status", (0, ""), (status, said))
+        sample = b"".join(map(encoder.word, (1, 32 + len(cut), 0, 0, 0, 0, 0, 0, 0, 1))) + cut
+        status, out, said = tool.run("show", "--full", tool.file("made", SHORT[:20] + encoder.word(1) + sample))
+        shapes = (field.partition(":") for field in encoder.LAYOUTS[name][2].split())
+        expected = [(field, trees.spoken(body, field, shape, body.fields[field])) for field, _, shape in shapes]
+        tool.checks.same(f"show a {name} that was cut out: status", (0, ""), (status, said))
+        tool.checks.same(f"show a {name} that was cut out", expected, [one[1:] for one in trees.fields_of(out)][-len(expected):])
+
+
+def cut_troubles(tool):
+    """One clear line, and nothing written, where there is nothing to cut out."""
+    capture = captures.pcap([captures.ipv4(captures.udp(b"")), captures.ipv4(captures.udp(SHORT)), captures.ipv4(captures.udp(SHORT[:20]))], captures.RAW)
+    tool.file("capture", capture)
+    tool.file("one", SHORT)
+    tool.file("bad", SHORT[:22])
+    tool.file("nothing", b"")
+    tool.file("more", SHORT + bytes(encoder.MAX_INPUT))
+    cut = "an item passes the end of what encloses it"
+    for status, words, said in (
+        (2, "nowhere 0", "nowhere: there is no such file"), (2, "nothing 0", "nothing: is empty"), (1, "bad 0", f"bad: is refused: code 2: {cut}, at 20"),
+        (2, "one 1", "one: has no descriptor 1: the last one is 0"), (2, "more 0", "more: is longer than 16,777,216 bytes"),
+        (2, "--packet 1 one 0", "one: is no capture, and has no packet 1"), (2, "capture 0", "capture: is a capture: --packet says which of its packets"),
+        (2, "--packet 4 capture 0", "capture: has no UDP packet 4 to port 6343 (--port names another)"),
+        (2, "--packet 2 --port 1 capture 0", "capture: has no UDP packet 2 to port 1 (--port names another)"),
+        (1, "--packet 3 capture 0", f"capture: is refused: code 2: {cut}, at 20"),
+    ):
+        tool.same("a trouble", (status, b"", f"latchplume: {said}\n"), "cut", *words.split(), raw=True)
+    tool.same("out of a packet", (0, SHORT, ""), "cut", "--packet", "2", "capture", "0", raw=True)
+    tool.same("from a pipe", (0, SHORT, ""), "cut", "-", "0", data=SHORT, raw=True)
 
 
 def harmless(character):
@@ -233,8 +293,8 @@ def check_all(checks, room):
     rng = random.Random(7)
     against_the_listing(Tool(checks, room, building.made("latchplume")), rng)
     tool = Tool(checks, room, building.made("latchplume-checked"))
-    for part in (real_shown, troubles, usages):
+    for part in (real_shown, troubles, usages, cut_troubles):
         part(tool)
-    for part in (refusals, trees_shown, nothing_raw, long_fields):
+    for part in (refusals, trees_shown, cuts, cuts_read_back, nothing_raw, long_fields):
         part(tool, rng)
     the_script(checks, room)

@@ -12,7 +12,7 @@ use Rattle.reading.specs.Script.{Value, number, Found}
 use Rattle.reading.specs.Cursor.{Place, Out, got, stop, times, follow}
 use Rattle.reading.specs.Layout.{version, addr, words, last-number, sample, header, datagram}
 use Rattle.reading.specs.Answer as answer
-use Rattle.reading.specs.Answer.{limited, size, rows, room, from, nobody, header-of, no-header, refused, stored, one, run}
+use Rattle.reading.specs.Answer.{limited, row-words, size, rows, room, from, nobody, header-of, no-header, refused, stored, one, run}
 use Rattle.reading.proofs.Items.{never, split}
 use Rattle.reading.proofs.Room.{whole, thrifty-datagram, datagram-on}
 use Rattle.reading.proofs.Runs.{run-from, thrifty-run}
@@ -62,17 +62,17 @@ module _ (head : List Value → answer.Header) (o : Out Found) (s w : List ℕ) 
   beyond h = rw (lt-leb (length s) 16777216 h)
 
   -- where descriptors were answered, the store has room for them
-  has-room : answered head o s w .code ≡ 0 → 6 * answered head o s w .needed ≤ length w
+  has-room : answered head o s w .code ≡ 0 → row-words * answered head o s w .needed ≤ length w
   unfolding stored
   has-room e = go (leb (length s) 16777216) o e
     where
       fits : (b : Bool) (a : Found) (p : Place) → leb (size (a .ranges)) (room w) ≡ b
-          → (cond b (record { code = 0; at = p .at; steps = p .steps; needed = size (a .ranges); head = head (a .values); store = rows 0 nobody (a .ranges) ++ drop (6 * size (a .ranges)) w }) (refused 9 0 (p .steps) (size (a .ranges)) w)) .code ≡ 0
-          → 6 * (cond b (record { code = 0; at = p .at; steps = p .steps; needed = size (a .ranges); head = head (a .values); store = rows 0 nobody (a .ranges) ++ drop (6 * size (a .ranges)) w }) (refused 9 0 (p .steps) (size (a .ranges)) w)) .needed ≤ length w
+          → (cond b (record { code = 0; at = p .at; steps = p .steps; needed = size (a .ranges); head = head (a .values); store = rows 0 nobody (a .ranges) ++ drop (row-words * size (a .ranges)) w }) (refused 9 0 (p .steps) (size (a .ranges)) w)) .code ≡ 0
+          → row-words * (cond b (record { code = 0; at = p .at; steps = p .steps; needed = size (a .ranges); head = head (a .values); store = rows 0 nobody (a .ranges) ++ drop (row-words * size (a .ranges)) w }) (refused 9 0 (p .steps) (size (a .ranges)) w)) .needed ≤ length w
       fits true a p t e = let y = leb-true (size (a .ranges)) (room w) t in omega arith
       fits false a p t e = absurd (omega arith)
 
-      go : (b : Bool) (o : Out Found) → (cond b (stored head o w) (refused 1 0 0 0 w)) .code ≡ 0 → 6 * (cond b (stored head o w) (refused 1 0 0 0 w)) .needed ≤ length w
+      go : (b : Bool) (o : Out Found) → (cond b (stored head o w) (refused 1 0 0 0 w)) .code ≡ 0 → row-words * (cond b (stored head o w) (refused 1 0 0 0 w)) .needed ≤ length w
       go false o e = omega arith
       go true (stop c a n) e = omega arith
       go true (got a p) e = fits (leb (size (a .ranges)) (room w)) a p refl e
@@ -94,30 +94,30 @@ module _ (head : List Value → answer.Header) (o : Out Found) (s w : List ℕ) 
             rw (i, j, k)
 
     module _ (e : Cursor) (k : ℕ) (t : Whole o e k) where
-      lacks : length w / 6 < k → refused 9 0 (e .steps) k w ≡ answered head o s w
+      lacks : room w < k → refused 9 0 (e .steps) k w ≡ answered head o s w
       unfolding stored
       lacks h =
           let z = lt-leb (size (t .found .ranges)) (room w) (rw (t .count) at h) in
           let y : stored head o w ≡ refused 9 0 (e .steps) (size (t .found .ranges)) w = ap (λ (u : Out Found). stored head u w) (t .is) ∙ rw z in
           rw (t .count) (sym y) ∙ sym within
 
-      fills : k ≤ length w / 6 → k ≤ 16777216 → Ready s w (root 0) o
+      fills : k ≤ room w → k ≤ 16777216 → Ready s w (root 0) o
       unfolding ranges-of
       fills h l =
           let z : size (ranges-of o) ≡ size (t .found .ranges) = ap (λ (u : Out Found). size (ranges-of u)) (t .is) in
           let x = t .count in
           record { short = short; good = subst Accepted (sym (t .is)) accepted; room = omega arith; few = omega arith }
 
-      stores : {l′ : List ℕ} {d : answer.Header} → k ≤ length w / 6 → l′ ≡ write w 0 (rows 0 nobody (ranges-of o)) → d ≡ head (t .found .values)
+      stores : {l′ : List ℕ} {d : answer.Header} → k ≤ room w → l′ ≡ write w 0 (rows 0 nobody (ranges-of o)) → d ≡ head (t .found .values)
           → record { code = 0; at = e .at; steps = e .steps; needed = k; head = d; store = l′ } ≡ answered head o s w
       unfolding stored ranges-of
       stores {l′} {d} h r q =
           let fs = t .found .ranges in
           let y = le-leb (size fs) (room w) (rw (t .count) at h) in
-          let b : length (rows 0 nobody fs) ≡ 6 * size fs = rows-length 0 nobody fs in
+          let b : length (rows 0 nobody fs) ≡ row-words * size fs = rows-length 0 nobody fs in
           let m : length (rows 0 nobody fs) ≤ length w = let x = t .count in omega (arith, b) in
           let g : l′ ≡ write w 0 (rows 0 nobody fs) = r ∙ ap (λ (u : Out Found). write w 0 (rows 0 nobody (ranges-of u))) (t .is) in
-          let n : l′ ≡ rows 0 nobody fs ++ drop (6 * size fs) w = g ∙ write-all w (rows 0 nobody fs) m ∙ ap (λ (i : ℕ). rows 0 nobody fs ++ drop i w) b in
+          let n : l′ ≡ rows 0 nobody fs ++ drop (row-words * size fs) w = g ∙ write-all w (rows 0 nobody fs) m ∙ ap (λ (i : ℕ). rows 0 nobody fs ++ drop i w) b in
           let c = t .count in
           let z : record { code = 0; at = e .at; steps = e .steps; needed = k; head = d; store = l′ } ≡ stored head (got (t .found) (place e)) w =
           rw y (λ i. record { code = 0; at = e .at; steps = e .steps; needed = c i; head = q i; store = n i }) in
@@ -184,11 +184,11 @@ module _ (s w : List ℕ) where
       there : Whole (follow datagram s (from 0)) e k
       there = known s is-read
 
-      pub no-room : {d : Decoded} → length w / 6 < k → Refuses d 9 0 (e .steps) k → decoded d w ≡ one s w
+      pub no-room : {d : Decoded} → room w < k → Refuses d 9 0 (e .steps) k → decoded d w ≡ one s w
       unfolding one
       no-room h f = f .leaves w ∙ lacks header-of (follow datagram s (from 0)) s w short e k there h
 
-      pub all-ready : k ≤ length w / 6 → Ready s w (root 0) (follow datagram s (from 0))
+      pub all-ready : k ≤ room w → Ready s w (root 0) (follow datagram s (from 0))
       all-ready h =
           let t = there in
           let y = thrifty-datagram 8 s (from 0) (t .found) (place e) (omega arith) (t .is) in
@@ -196,14 +196,14 @@ module _ (s w : List ℕ) where
           let x = t .count in
           fills header-of (follow datagram s (from 0)) s w short e k t h (omega (arith, y, f .1))
 
-      pub all-stored : {a b : ℕ} {l′ : List ℕ} {d : Decoded} → k ≤ length w / 6 → a-put a b l′ ≡ placed (root 0) (follow datagram s (from 0)) w → Accepts s d e k → decoded d l′ ≡ one s w
+      pub all-stored : {a b : ℕ} {l′ : List ℕ} {d : Decoded} → k ≤ room w → a-put a b l′ ≡ placed (root 0) (follow datagram s (from 0)) w → Accepts s d e k → decoded d l′ ≡ one s w
       unfolding one values-of
       all-stored {l′ = l′} h f g =
           let t = there in
           let d : header-of (values-of (follow datagram s (from 0))) ≡ header-of (t .found .values) = ap (λ (u : Out Found). header-of (values-of u)) (t .is) in
           g .leaves l′ ∙ stores header-of (follow datagram s (from 0)) s w short e k t h (store-is (root 0) _ w f) d
 
-pub decoded-room : {l : List ℕ} (s w : List ℕ) (d : Decoded) → decoded d l ≡ one s w → length l ≡ length w → d .answer .code ≡ 0 → 6 * d .answer .needed ≤ length l
+pub decoded-room : {l : List ℕ} (s w : List ℕ) (d : Decoded) → decoded d l ≡ one s w → length l ≡ length w → d .answer .code ≡ 0 → row-words * d .answer .needed ≤ length l
 unfolding one
 decoded-room {l} s w d e k c =
     let x : d .answer .code ≡ answered header-of (follow datagram s (from 0)) s w .code = ap (λ (r : answer.Answer). r .code) e in
@@ -228,11 +228,11 @@ module _ (s w : List ℕ) where
       run-there : Whole (run-from s (from 0)) e k
       run-there = judged-whole (run-from s (from 0)) e k (rw q at i)
 
-      pub run-no-room : length w / 6 < k → refused 9 0 (e .steps) k w ≡ run s w
+      pub run-no-room : room w < k → refused 9 0 (e .steps) k w ≡ run s w
       unfolding run run-from
       run-no-room h = lacks (λ _. no-header) (run-from s (from 0)) s w short e k run-there h
 
-      pub run-ready : k ≤ length w / 6 → Ready s w (root 0) (run-from s (from 0))
+      pub run-ready : k ≤ room w → Ready s w (root 0) (run-from s (from 0))
       run-ready h =
           let t = run-there in
           let y = thrifty-run s 0 (omega arith) (t .is) in
@@ -243,7 +243,7 @@ module _ (s w : List ℕ) where
       unfolding end-of
       run-end = sym (ap end-of (run-there .is))
 
-      pub run-stored : {l′ : List ℕ} → k ≤ length w / 6 → l′ ≡ write w 0 (rows 0 nobody (ranges-of (run-from s (from 0))))
+      pub run-stored : {l′ : List ℕ} → k ≤ room w → l′ ≡ write w 0 (rows 0 nobody (ranges-of (run-from s (from 0))))
           → record { code = 0; at = e .at; steps = e .steps; needed = k; head = no-header; store = l′ } ≡ run s w
       unfolding run run-from
       run-stored h f = stores (λ _. no-header) (run-from s (from 0)) s w short e k run-there h f refl
@@ -252,7 +252,7 @@ module _ (s w : List ℕ) where
 pub run-kept : {l′ : List ℕ} (w ws : List ℕ) → l′ ≡ write w 0 ws → length l′ ≡ length w
 run-kept w ws e = ap length e ∙ write-length w 0 ws
 
-pub ran-room : {l : List ℕ} (s w : List ℕ) (d : Answer) → ran d l ≡ run s w → length l ≡ length w → d .code ≡ 0 → 6 * d .needed ≤ length l
+pub ran-room : {l : List ℕ} (s w : List ℕ) (d : Answer) → ran d l ≡ run s w → length l ≡ length w → d .code ≡ 0 → row-words * d .needed ≤ length l
 unfolding run run-from
 ran-room {l} s w d e k c =
     let x : d .code ≡ answered (λ _. no-header) (run-from s (from 0)) s w .code = ap (λ (r : answer.Answer). r .code) e in

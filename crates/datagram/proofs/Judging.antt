@@ -12,7 +12,7 @@ use Rattle.reading.specs.Bytes.{be4}
 use Rattle.reading.specs.Script.{Value, Range, Forest, bare, tree, Found}
 use Rattle.reading.specs.Cursor.{Out, got, stop, then, times, follow}
 use Rattle.reading.specs.Layout.{version, addr, words, last-number, ranged, between, sample, header, datagram}
-use Rattle.reading.specs.Answer.{size, rows, from, nobody}
+use Rattle.reading.specs.Answer.{row-words, size, row-of, rows, from, nobody}
 use Rattle.reading.proofs.Room.{whole, datagram-is, header-on}
 use Rattle.reading.proofs.Fields.{fields-out}
 use Rattle.reading.proofs.Words.{numbers}
@@ -140,7 +140,7 @@ module _ (s l : List ℕ) (at base : ℕ) (g : Ready s l (root base) (follow dat
     alike = steady-times (sample 8) s n (place d) (from (d .at)) refl
 
     lies : (o u : Out Found) → Alike o u → Accepted (then o (λ r i. got (whole at vs r i) i))
-        → Accepted u × (ranges-of (then o (λ r i. got (whole at vs r i) i)) ≡ ranged 0 0 0 (between at (end-of u)) (ranges-of u)) × (end-of (then o (λ r i. got (whole at vs r i) i)) ≡ end-of u)
+        → Accepted u × (ranges-of (then o (λ r i. got (whole at vs r i) i)) ≡ ranged 0 0 0 at (between at (end-of u)) (ranges-of u)) × (end-of (then o (λ r i. got (whole at vs r i) i)) ≡ end-of u)
     unfolding ranges-of end-of
     lies (got a q) u k y =
         let z : q .at ≡ end-of u = alike-end k accepted in
@@ -149,7 +149,7 @@ module _ (s l : List ℕ) (at base : ℕ) (g : Ready s l (root base) (follow dat
     lies (stop c a n) u k y = absurd (stopped y)
 
     laid : Accepted (times n (follow (sample 8)) s (from (d .at)))
-        × (ranges-of (follow datagram s (from at)) ≡ ranged 0 0 0 (between at (end-of (times n (follow (sample 8)) s (from (d .at))))) (ranges-of (times n (follow (sample 8)) s (from (d .at)))))
+        × (ranges-of (follow datagram s (from at)) ≡ ranged 0 0 0 at (between at (end-of (times n (follow (sample 8)) s (from (d .at))))) (ranges-of (times n (follow (sample 8)) s (from (d .at)))))
         × (end-of (follow datagram s (from at)) ≡ end-of (times n (follow (sample 8)) s (from (d .at))))
     laid =
         let y = lies _ _ alike (subst Accepted is (g .good)) in
@@ -180,10 +180,13 @@ module _ (s l : List ℕ) (at base : ℕ) (g : Ready s l (root base) (follow dat
       pub length32 : Fits w32 (a - at)
       length32 = record { fits = omega (arith, end-in .1, g .short) }
 
-      pub own-room : 6 * 0 + 6 ≤ length l′
+      pub own-room : row-words * 0 + row-words ≤ length l′
       own-room = let k = sizes in omega (arith, g .room, put-kept (a-pen base base 1) _ l i)
 
-      module _ {l″ : List ℕ} (q : l″ ≡ write l′ (6 * 0) (0 ∷ 0 ∷ at ∷ (a - at) ∷ nobody ∷ 0 ∷ [])) where
+      abbrev own-range : Range
+      own-range = record { kind = 0; format = 0; span = between at a; depth = 0; first = at }
+
+      module _ {l″ : List ℕ} (q : l″ ≡ write l′ (row-words * 0) (row-of nobody own-range)) where
         pub datagram-kept : length l″ ≡ length l
         datagram-kept = ap length q ∙ write-length _ _ _ ∙ put-kept (a-pen base base 1) _ l i
 
@@ -192,16 +195,15 @@ module _ (s l : List ℕ) (at base : ℕ) (g : Ready s l (root base) (follow dat
         datagram-placed =
             let x : a ≡ end-of (times n (follow (sample 8)) s (from (d .at))) = at-is (a-pen base base 1) _ l i in
             let y : b ≡ 1 + size (ranges-of (times n (follow (sample 8)) s (from (d .at)))) = next-is (a-pen base base 1) _ l i in
-            let r : Range = record { kind = 0; format = 0; span = between at a; depth = 0 } in
-            let k : l′ ≡ write l (6 * (0 + 1)) (rows (base + (0 + 1)) (base + 0) (ranges-of (times n (follow (sample 8)) s (from (d .at))))) =
-            store-is (a-pen base base 1) _ l i ∙ ap (λ (m : ℕ). write l 6 (rows (base + 1) m (ranges-of (times n (follow (sample 8)) s (from (d .at)))))) (sym (add-zero base)) in
-            let t : tree r (ranges-of (times n (follow (sample 8)) s (from (d .at)))) bare ≡ ranges-of (follow datagram s (from at)) =
-            ap (λ (m : ℕ). ranged 0 0 0 (between at m) (ranges-of (times n (follow (sample 8)) s (from (d .at))))) x ∙ sym (laid .1) in
+            let k : l′ ≡ write l (row-words * (0 + 1)) (rows (base + (0 + 1)) (base + 0) (ranges-of (times n (follow (sample 8)) s (from (d .at))))) =
+            store-is (a-pen base base 1) _ l i ∙ ap (λ (m : ℕ). write l row-words (rows (base + 1) m (ranges-of (times n (follow (sample 8)) s (from (d .at)))))) (sym (add-zero base)) in
+            let t : tree own-range (ranges-of (times n (follow (sample 8)) s (from (d .at)))) bare ≡ ranges-of (follow datagram s (from at)) =
+            ap (λ (m : ℕ). ranged 0 0 0 at (between at m) (ranges-of (times n (follow (sample 8)) s (from (d .at))))) x ∙ sym (laid .1) in
             let u : a ≡ end-of (follow datagram s (from at)) = x ∙ sym (laid .2) in
             let m : b ≡ 0 + size (ranges-of (follow datagram s (from at))) = y ∙ rw sizes (omega arith) in
-            let z : l″ ≡ write l (6 * 0) (rows (base + 0) nobody (ranges-of (follow datagram s (from at)))) =
-            own-last l base nobody 0 r (ranges-of (times n (follow (sample 8)) s (from (d .at)))) k q
-            ∙ ap (λ (o : Forest). write l (6 * 0) (rows (base + 0) nobody o)) t in
+            let z : l″ ≡ write l (row-words * 0) (rows (base + 0) nobody (ranges-of (follow datagram s (from at)))) =
+            own-last l base nobody 0 own-range (ranges-of (times n (follow (sample 8)) s (from (d .at)))) k q
+            ∙ ap (λ (o : Forest). write l (row-words * 0) (rows (base + 0) nobody o)) t in
             λ j. record { at = u j; next = m j; store = z j }
 
 pub ruleset judging = (within-start, scan-inside, behind-cut, behind-last, counted-scan, last-there, last-fits, one-counts, heads-last, heads-within, judged-all, header-there, samples-ready, start32, end-forward, length32, own-room, datagram-kept, datagram-placed, put-kept, needs)

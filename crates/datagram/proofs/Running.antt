@@ -10,7 +10,7 @@ use mir.Val.{Fits}
 use Rattle.reading.specs.Script.{Forest, Found}
 use Rattle.reading.specs.Cursor.{Place, Out, got, stop, follow}
 use Rattle.reading.specs.Layout.{datagram}
-use Rattle.reading.specs.Answer.{size, rows, from, nobody}
+use Rattle.reading.specs.Answer.{row-words, size, rows, from, nobody}
 use Rattle.reading.proofs.Items.{never}
 use Rattle.reading.proofs.Room.{thrifty-datagram, datagram-on}
 use Rattle.reading.proofs.Runs.{run-from, run-over, run-got, run-ends, run-stops}
@@ -74,34 +74,34 @@ judge-over s c k e h =
 
 -- ---- the second pass: one datagram, behind n descriptors
 module _ (s l : List ℕ) (at n : ℕ) (g : Ready s l (pen-at n) (follow datagram s (from at))) where
-  pub part-start : 6 * n ≤ length l
+  pub part-start : row-words * n ≤ length l
   part-start = omega (arith, g .room)
 
-  pub part-fits : Fits w64 (6 * n)
+  pub part-fits : Fits w64 (row-words * n)
   part-fits = record { fits = omega (arith, g .few) }
 
   pub index-fits : Fits w32 n
   index-fits = record { fits = omega (arith, g .few) }
 
-  pub part-ready : Ready s (take (length l - 6 * n) (drop (6 * n) l)) (root n) (follow datagram s (from at))
+  pub part-ready : Ready s (take (length l - row-words * n) (drop (row-words * n) l)) (root n) (follow datagram s (from at))
   part-ready =
-      let m : length (rest l (6 * n)) ≡ length l - 6 * n = ap length (rest-is l (6 * n)) ∙ length-drop (6 * n) l in
+      let m : length (rest l (row-words * n)) ≡ length l - row-words * n = ap length (rest-is l (row-words * n)) ∙ length-drop (row-words * n) l in
       record { short = g .short; good = g .good; room = omega (arith, g .room, m); few = omega (arith, g .few) }
 
-  module _ {v : Written} {l′ : List ℕ} (e : written v l′ ≡ placed (root n) (follow datagram s (from at)) (take (length l - 6 * n) (drop (6 * n) l))) where
+  module _ {v : Written} {l′ : List ℕ} (e : written v l′ ≡ placed (root n) (follow datagram s (from at)) (take (length l - row-words * n) (drop (row-words * n) l))) where
     more : v .next ≡ 0 + size (ranges-of (follow datagram s (from at)))
     more = next-is (root n) _ _ e
 
     pub part-more : Fits w64 (n + v .next)
     part-more = let y = more in record { fits = omega (arith, g .few) }
 
-    module _ {l″ : List ℕ} (q : l″ ≡ take (6 * n) l ++ (l′ ++ drop (length l - 6 * n) (drop (6 * n) l))) where
-      joined : l″ ≡ write l (6 * n) (rows (0 + n) nobody (ranges-of (follow datagram s (from at))))
+    module _ {l″ : List ℕ} (q : l″ ≡ take (row-words * n) l ++ (l′ ++ drop (length l - row-words * n) (drop (row-words * n) l))) where
+      joined : l″ ≡ write l (row-words * n) (rows (0 + n) nobody (ranges-of (follow datagram s (from at))))
       joined =
           let x : n + 0 ≡ 0 + n = omega arith in
-          let y : l′ ≡ write (rest l (6 * n)) 0 (rows (0 + n) nobody (ranges-of (follow datagram s (from at)))) =
-          store-is (root n) _ _ e ∙ ap (λ (m : ℕ). write (rest l (6 * n)) 0 (rows m nobody (ranges-of (follow datagram s (from at))))) x in
-          q ∙ ap (λ (x : List ℕ). take (6 * n) l ++ (x ++ drop (length l - 6 * n) (drop (6 * n) l))) y ∙ write-rest l (6 * n) (rows (0 + n) nobody (ranges-of (follow datagram s (from at)))) part-start
+          let y : l′ ≡ write (rest l (row-words * n)) 0 (rows (0 + n) nobody (ranges-of (follow datagram s (from at)))) =
+          store-is (root n) _ _ e ∙ ap (λ (m : ℕ). write (rest l (row-words * n)) 0 (rows m nobody (ranges-of (follow datagram s (from at))))) x in
+          q ∙ ap (λ (x : List ℕ). take (row-words * n) l ++ (x ++ drop (length l - row-words * n) (drop (row-words * n) l))) y ∙ write-rest l (row-words * n) (rows (0 + n) nobody (ranges-of (follow datagram s (from at)))) part-start
 
       pub part-kept : length l″ ≡ length l
       part-kept = ap length joined ∙ write-length _ _ _
@@ -120,7 +120,7 @@ module _ (s l : List ℕ) (cur end n : ℕ) (g : Ready s l (pen-at n) (run-from 
   unfolding placed rows
   run-all w h e =
       let y = run-bare s cur i (g .good) (omega (arith, z)) in
-      sym (write-none l (6 * n)) ∙ ap (λ (f : Forest). write l (6 * n) (rows (0 + n) nobody f)) (sym y) ∙ ap (λ (p : Put). p .store) e
+      sym (write-none l (row-words * n)) ∙ ap (λ (f : Forest). write l (row-words * n) (rows (0 + n) nobody f)) (sym y) ∙ ap (λ (p : Put). p .store) e
 
   module _ (h : cur < end) where
     parts : Run-at s cur

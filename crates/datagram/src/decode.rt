@@ -7,6 +7,7 @@ use crate::one::judge;
 use crate::one::put_datagram;
 use flows::frames::Scanned;
 use flows::next;
+use flows::put::DESCRIPTOR_WORDS;
 use xdr::Address;
 use xdr::Cursor;
 use xdr::Passed;
@@ -96,7 +97,7 @@ pub fn decode(s: &[u8], store: &mut [u32]) -> Decoded
     match judge(s, Cursor { at: 0, steps: 0 }, 0) {
         Scanned::Stop(r) => Decoded::refused(r.code, r.at, r.steps, 0),
         Scanned::Got(e, k) => {
-            if store.len() / 6 < k {
+            if store.len() / DESCRIPTOR_WORDS < k {
                 return Decoded::refused(9, 0, e.steps, k);
             }
             put_datagram(s, 0, store, 0);

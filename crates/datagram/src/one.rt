@@ -85,6 +85,7 @@ pub fn put_datagram(s: &[u8], at: usize, store: &mut [u32], base: u32) -> Writte
                     length: (end - at) as u32,
                     parent: 4294967295,
                     depth: 0,
+                    first: at as u32,
                 },
             );
             w

@@ -16,6 +16,7 @@ use crate::decode::Answer;
 use crate::one::judge;
 use crate::one::put_datagram;
 use flows::frames::Scanned;
+use flows::put::DESCRIPTOR_WORDS;
 use flows::put::Written;
 use xdr::Cursor;
 
@@ -55,7 +56,7 @@ fn put_next(s: &[u8], at: usize, store: &mut [u32], next: usize) -> Written
     requires { ⌜ Ready (now s) (now store) (pen-at next) (follow datagram (now s) (from at)) ⌝ }
     ensures { λ r. ⌜ written r (now (store .exit)) ≡ placed (pen-at next) (follow datagram (now (s .entry)) (from at)) (now (store .entry)) ⌝ }
 {
-    let w = put_datagram(s, at, &mut store[6 * next..], next as u32);
+    let w = put_datagram(s, at, &mut store[DESCRIPTOR_WORDS * next..], next as u32);
     Written {
         at: w.at,
         next: next + w.next,
@@ -97,7 +98,7 @@ pub fn decode_run(s: &[u8], store: &mut [u32]) -> Answer
             needed: 0,
         },
         Scanned::Got(e, k) => {
-            if store.len() / 6 < k {
+            if store.len() / DESCRIPTOR_WORDS < k {
                 return Answer {
                     code: 9,
                     at: 0,

@@ -10,7 +10,7 @@ use lib.Dec.{leb}
 use lib.ListN.{length, drop}
 use Rattle.reading.specs.Script.{Forest, Found}
 use Rattle.reading.specs.Layout.{only, depth-limit}
-use Rattle.reading.specs.Answer.{limit, limited, size, Answer, refused, one, run}
+use Rattle.reading.specs.Answer.{limit, limited, row-words, size, Answer, refused, one, run}
 use Rattle.reading.proofs.Stands.{place}
 use Rattle.demands.specs.Readings.{Allowed}
 use Rattle.demands.specs.Tries.{Run}
@@ -32,7 +32,7 @@ module _ (s w : List ℕ) where
   by-found z =
       let a = accepted-reads s w z in
       subst (All-fields s (a .found .ranges)) (sym (a .answers .store))
-      (datagram-fields s (within-limit s w _ z) (a .found) (place (a .bytes) (a .items)) (drop (6 * size (a .found .ranges)) w) (given depth-limit s (a .allowed .reading) (a .allowed .shallow)))
+      (datagram-fields s (within-limit s w _ z) (a .found) (place (a .bytes) (a .items)) (drop (row-words * size (a .found .ranges)) w) (given depth-limit s (a .allowed .reading) (a .allowed .shallow)))
 
   pub one-fields : one s w .code ≡ 0 → {f : Found} {bytes items : ℕ} → Allowed s f bytes items → All-fields s (f .ranges) (one s w .store)
   one-fields z r = subst (λ (f : Found). All-fields s (f .ranges) (one s w .store)) (one-reading s (accepted-reads s w z .allowed .reading) (r .reading) .0) (by-found z)
@@ -42,7 +42,7 @@ module _ (s w : List ℕ) where
   by-ranges z =
       let a = run-accepts s w z in
       subst (All-fields s (a .ranges)) (sym (a .answers .store))
-      (run-fields s (within-limit s w _ z) (only (a .ranges)) (place (a .end) (a .items)) (drop (6 * size (a .ranges)) w) (length s) (run-out s w (a .is)))
+      (run-fields s (within-limit s w _ z) (only (a .ranges)) (place (a .end) (a .items)) (drop (row-words * size (a .ranges)) w) (length s) (run-out s w (a .is)))
 
   pub run-all-fields : run s w .code ≡ 0 → {g : Forest} {end n : ℕ} → Run s 0 g end n → All-fields s g (run s w .store)
   run-all-fields z t = subst (λ (g : Forest). All-fields s g (run s w .store)) (one-run s w (run-accepts s w z .is) t .0) (by-ranges z)

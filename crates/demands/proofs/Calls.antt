@@ -1,9 +1,14 @@
 -- The two calls that read an input into a store, and what holds of both. Assumes nothing.
 use Prim.Native.Nat.{ℕ, _/_, _≤_, _<_}
-use mathlib.Core.Path.{_≡_}
+use mathlib.Core.Path.{_≡_, refl, ap}
+use mathlib.Core.Bool.{Bool, true, false}
 use mathlib.Core.List.{List}
+use native.Mathlib.Omega.{arith}
+use borrow.Author.Tests.{le-leb, leb-true, leb-false}
+use lib.Dec.{leb}
 use lib.ListN.{length}
-use Rattle.reading.specs.Answer.{limit, room, Answer, refused, one, run}
+use Rattle.reading.specs.Answer.{limit, room, Answer, refused, one, run, whole-span}
+use Rattle.demands.specs.Nested.{last, Row, row, all-of, whole-of}
 use Rattle.demands.proofs.Quarter.{Quartered, one-quartered, run-quartered, one-room, run-room}
 use Rattle.demands.proofs.Kept.{Kept, one-kept, run-kept}
 use Rattle.demands.proofs.Placed.{Placed, one-placed, run-placed}
@@ -31,10 +36,26 @@ pub never-for-room : {c : Call} → Public c → (s w : List ℕ) → length s /
 never-for-room decode s w = one-room s w
 never-for-room decode-run s w = run-room s w
 
-pub placed : {c : Call} → Public c → (s w : List ℕ) → Placed (c s w)
+pub placed : {c : Call} → Public c → (s w : List ℕ) → Placed s (c s w)
 placed decode s w = one-placed s w
 placed decode-run s w = run-placed s w
 
 pub too-long : {c : Call} → Public c → (s w : List ℕ) → limit < length s → c s w ≡ refused 1 0 0 0 w
 too-long decode s w = long-refused s w
 too-long decode-run s w = run-too-long s w
+
+-- what is accepted is not too long
+within-limit : {c : Call} → Public c → (s w : List ℕ) → c s w .code ≡ 0 → length s ≤ limit
+within-limit {c} p s w z = go (leb (length s) limit) refl
+  where
+    go : (b : Bool) → leb (length s) limit ≡ b → length s ≤ limit
+    go true e = leb-true (length s) limit e
+    go false e = let x = ap (λ (a : Answer). a .code) (too-long p s w (leb-false (length s) limit e)) in absurd (omega (arith, x, z))
+
+-- all of what a descriptor stands for is given, where the input has it
+whole-had : (s : List ℕ) (r : Row) → length s ≤ limit → r .first ≤ r .span .start → last (r .span) ≤ length s → whole-of s r ≡ all-of r
+unfolding whole-span
+whole-had s r h k l = rw (le-leb (length s) limit h, le-leb (r .first) (r .span .start) k, le-leb (last (r .span)) (length s) l)
+
+pub whole-there : {c : Call} → Public c → (s w : List ℕ) → c s w .code ≡ 0 → (i : ℕ) → i < c s w .needed → whole-of s (row (c s w .store) i) ≡ all-of (row (c s w .store) i)
+whole-there p s w z i h = let t = placed p s w z in whole-had s (row _ i) (within-limit p s w z) (t .first-before i h) (t .all-there i h)

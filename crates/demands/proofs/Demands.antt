@@ -10,7 +10,7 @@ use Rattle.reading.specs.Utf8.{utf8}
 use Rattle.reading.specs.Script.{Forest, Found}
 use Rattle.reading.specs.Grammar.{Is}
 use Rattle.reading.specs.Layout.{depth-limit, datagram-to, datagram}
-use Rattle.reading.specs.Answer.{limit, nobody, size, no-header, Answer, refused, one, run, read}
+use Rattle.reading.specs.Answer.{limit, nobody, row-words, size, room, no-header, Answer, refused, one, run, read}
 use Rattle.demands.specs.Depths.{Shallow}
 use Rattle.demands.proofs.Limit.{no-deeper, same-reading}
 use Rattle.demands.specs.Readings.{Reading, Answers, Allowed, Accepted}
@@ -24,10 +24,10 @@ use Rattle.demands.specs.Tries.{Run, Run-stops}
 use Rattle.demands.specs.RunItemised.{Run-answers, Run-itemised, Run-accepted}
 use Rattle.demands.proofs.RunItemised.{run-itemised, run-accepts, run-answered, run-fits, run-refused, one-run, run-room-last}
 use Rattle.demands.proofs.RunUnseen.{run-eight-unseen}
-use Rattle.demands.specs.Nested.{end, Inside, row}
+use Rattle.demands.specs.Nested.{end, last, Inside, Byte-of, row, all-of, whole-of}
 use Rattle.demands.specs.FieldsItemised.{Fields-itemised}
 use Rattle.demands.proofs.FieldsItemised.{fields-itemised}
-use Rattle.demands.proofs.Calls.{Call, Public, kept, quartered, never-for-room, placed, too-long}
+use Rattle.demands.proofs.Calls.{Call, Public, kept, quartered, never-for-room, placed, too-long, whole-there}
 use Rattle.demands.proofs.Impostors.{Equals, p2, refuses-all, answers-p2, writes-nothing, own-steps, run-invents}
 use Rattle.demands.specs.Abnf.{UTF8-octets}
 use Rattle.demands.proofs.Characters.{test-by-rules, rules-by-test}
@@ -45,7 +45,7 @@ module _ {c : Call} (p : Public c) (s w : List ℕ) where
   refusal-needs = kept p s w .refused-needed
 
   -- an acceptance leaves the words behind its descriptors, and the store its length
-  pub rest-stays : drop (6 * c s w .needed) (c s w .store) ≡ drop (6 * c s w .needed) w
+  pub rest-stays : drop (row-words * c s w .needed) (c s w .store) ≡ drop (row-words * c s w .needed) w
   rest-stays = kept p s w .behind
 
   pub length-stays : length (c s w .store) ≡ length w
@@ -59,7 +59,7 @@ module _ {c : Call} (p : Public c) (s w : List ℕ) where
   needed-bounded = quartered p s w .needed
 
   -- so a store for a quarter of the length, rounded down, is never refused for room
-  pub quarter-suffices : length s / 4 ≤ length w / 6 → c s w .code ≡ 9 → ⊥
+  pub quarter-suffices : length s / 4 ≤ room w → c s w .code ≡ 9 → ⊥
   quarter-suffices = never-for-room p s w
 
   -- ---- demand 3, nesting (`Placed`, `Siblings`, `Nested`): in an accepted input a datagram's descriptor has no parent, and any other lies inside its
@@ -74,9 +74,32 @@ module _ {c : Call} (p : Public c) (s w : List ℕ) where
       → Inside (row (c s w .store) i .span) (row (c s w .store) (row (c s w .store) i .parent) .span)
   child-inside-parent z = placed p s w z .parent-holds
 
-  -- and a sibling starts at or after the end of the one before
+  -- its first byte is a byte of its parent's range, and a datagram's is its range's own; no range begins before it
+  pub first-inside-parent : c s w .code ≡ 0 → (i : ℕ) → i < c s w .needed → (row (c s w .store) i .kind ≡ 0 → ⊥)
+      → Byte-of (row (c s w .store) i .first) (row (c s w .store) (row (c s w .store) i .parent) .span)
+  first-inside-parent z = placed p s w z .first-inside
+
+  pub datagram-from-first : c s w .code ≡ 0 → (i : ℕ) → i < c s w .needed → row (c s w .store) i .kind ≡ 0 → row (c s w .store) i .first ≡ row (c s w .store) i .span .start
+  datagram-from-first z = placed p s w z .own-first
+
+  pub first-before-range : c s w .code ≡ 0 → (i : ℕ) → i < c s w .needed → row (c s w .store) i .first ≤ row (c s w .store) i .span .start
+  first-before-range z = placed p s w z .first-before
+
+  -- all of it, to the end of its pad, lies in its parent's range, and in the input
+  pub pad-inside-parent : c s w .code ≡ 0 → (i : ℕ) → i < c s w .needed → (row (c s w .store) i .kind ≡ 0 → ⊥)
+      → last (row (c s w .store) i .span) ≤ end (row (c s w .store) (row (c s w .store) i .parent) .span)
+  pad-inside-parent z = placed p s w z .pad-inside
+
+  pub pad-inside-input : c s w .code ≡ 0 → (i : ℕ) → i < c s w .needed → last (row (c s w .store) i .span) ≤ length s
+  pad-inside-input z = placed p s w z .all-there
+
+  -- so that `latchplume_whole` gives all of it
+  pub whole-is-given : c s w .code ≡ 0 → (i : ℕ) → i < c s w .needed → whole-of s (row (c s w .store) i) ≡ all-of (row (c s w .store) i)
+  whole-is-given = whole-there p s w
+
+  -- and a sibling's first byte is at or after the end of the one before, and of its pad: counted from it, siblings are disjoint
   pub sibling-after-sibling : c s w .code ≡ 0 → (i k : ℕ) → i < k → k < c s w .needed → row (c s w .store) i .parent ≡ row (c s w .store) k .parent
-      → end (row (c s w .store) i .span) ≤ row (c s w .store) k .span .start
+      → last (row (c s w .store) i .span) ≤ row (c s w .store) k .first
   sibling-after-sibling z = placed p s w z .siblings-apart
 
   -- ---- the first fault: code 1 comes before all
@@ -90,7 +113,7 @@ module _ (s w : List ℕ) where
   accepted-is-read = accepted-reads s w
 
   -- and wherever it does, if the store has room
-  pub read-is-accepted : length s ≤ limit → {f : Found} {bytes items : ℕ} → Allowed s f bytes items → size (f .ranges) ≤ length w / 6 → Answers w f bytes items (one s w)
+  pub read-is-accepted : length s ≤ limit → {f : Found} {bytes items : ℕ} → Allowed s f bytes items → size (f .ranges) ≤ room w → Answers w f bytes items (one s w)
   read-is-accepted = reading-answers s w
 
   -- no input has two readings, however deep
@@ -98,7 +121,7 @@ module _ (s w : List ℕ) where
   only-reading = one-reading s
 
   -- as one equivalence, with a store for a quarter of the length
-  pub accepted-exactly : length s ≤ limit → length s / 4 ≤ length w / 6
+  pub accepted-exactly : length s ≤ limit → length s / 4 ≤ room w
       → (one s w .code ≡ 0) ↔ ((f : Found) × (bytes items : ℕ) × Allowed s f bytes items)
   accepted-exactly short wide =
       (λ z. let a = accepted-reads s w z in (a .found, a .bytes, a .items, a .allowed), λ (f, bytes, items, r). reading-answers s w short r (reading-fits s w short r wide) .code)
@@ -124,7 +147,7 @@ module _ (s w : List ℕ) where
   fault-or-reading = no-fault s w
 
   -- code 9 comes after all: only where there is a whole reading, for which the store has no room; steps and needed are that reading's
-  pub no-room-last : one s w .code ≡ 9 → (f : Found) × (bytes items : ℕ) × Allowed s f bytes items × (length w / 6 < size (f .ranges)) × (one s w ≡ refused 9 0 items (size (f .ranges)) w)
+  pub no-room-last : one s w .code ≡ 9 → (f : Found) × (bytes items : ℕ) × Allowed s f bytes items × (room w < size (f .ranges)) × (one s w ≡ refused 9 0 items (size (f .ranges)) w)
   no-room-last = room-last s w
 
   -- code 8 precedes any look at that record's bytes (`Unseen`): an input that is as long, and alike before that position, is answered alike
@@ -137,13 +160,13 @@ module _ (s w : List ℕ) where
   pub run-accepted-is-read : run s w .code ≡ 0 → Run-accepted s w (run s w)
   run-accepted-is-read = run-accepts s w
 
-  pub run-read-is-accepted : {g : Forest} {end n : ℕ} → length s ≤ limit → Run s 0 g end n → size g ≤ length w / 6 → Run-answers w g end n (run s w)
+  pub run-read-is-accepted : {g : Forest} {end n : ℕ} → length s ≤ limit → Run s 0 g end n → size g ≤ room w → Run-answers w g end n (run s w)
   run-read-is-accepted = run-answered s w
 
   pub only-run : {g h : Forest} {end n last m : ℕ} → Run s 0 g end n → Run s 0 h last m → (g ≡ h) × (end ≡ last) × (n ≡ m)
   only-run = one-run s w
 
-  pub run-accepted-exactly : length s ≤ limit → length s / 4 ≤ length w / 6 → (run s w .code ≡ 0) ↔ ((g : Forest) × (end n : ℕ) × Run s 0 g end n)
+  pub run-accepted-exactly : length s ≤ limit → length s / 4 ≤ room w → (run s w .code ≡ 0) ↔ ((g : Forest) × (end n : ℕ) × Run s 0 g end n)
   run-accepted-exactly short wide = (λ z. let a = run-accepts s w z in (a .ranges, a .end, a .items, a .is), λ (g, e, n, t). run-answered s w short t (run-fits s w t wide) .code)
 
   pub run-fields-are-read : run s w .code ≡ 0 → {g : Forest} {end n : ℕ} → Run s 0 g end n → All-fields s g (run s w .store)
@@ -156,7 +179,7 @@ module _ (s w : List ℕ) where
   pub run-first-fault-answered : {c i n : ℕ} → length s ≤ limit → Run-stops s 0 c i n → run s w ≡ refused c i n 0 w
   run-first-fault-answered = run-refused s w
 
-  pub run-no-room-last : run s w .code ≡ 9 → (g : Forest) × (end n : ℕ) × Run s 0 g end n × (length w / 6 < size g) × (run s w ≡ refused 9 0 n (size g) w)
+  pub run-no-room-last : run s w .code ≡ 9 → (g : Forest) × (end n : ℕ) × Run s 0 g end n × (room w < size g) × (run s w ≡ refused 9 0 n (size g) w)
   run-no-room-last = run-room-last s w
 
   pub run-record-not-looked-at : (t : List ℕ) → run s w .code ≡ 8 → length t ≡ length s → take (run s w .at) t ≡ take (run s w .at) s → run t w ≡ run s w

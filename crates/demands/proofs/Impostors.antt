@@ -1,6 +1,6 @@
 -- The impostors of document 01: none of them answers what the definitions say. Each falls at an input that is written out, on which both are computed.
 -- Assumes nothing.
-use Prim.Native.Nat.{ℕ, _/_, _%_}
+use Prim.Native.Nat.{ℕ, _*_, _/_, _%_}
 use mathlib.Core.Path.{_≡_, refl, sym, ap, _∙_}
 use mathlib.Core.List.{List, [], _∷_, _++_}
 use native.Mathlib.Omega.{arith}
@@ -10,7 +10,7 @@ use Rattle.reading.specs.Numbers.{known, header-protocols}
 use Rattle.reading.specs.Cursor.{read-item, follow}
 use Rattle.reading.specs.Layout.{address-of, run-of, field, fields, last-number, opened, flows, flow, samples, datagram-to}
 use Rattle.demands.proofs.Calls.{Call}
-use Rattle.reading.specs.Answer.{size, rows, header-of, no-header, Answer, stored, one, tried, datagrams, run}
+use Rattle.reading.specs.Answer.{row-words, size, rows, header-of, no-header, Answer, stored, one, tried, datagrams, run}
 
 -- big-endian words
 abbrev pub bytes-of : List ℕ → List ℕ
@@ -30,7 +30,7 @@ filled = bytes-of (5 ∷ 0 ∷ 0 ∷ 1 ∷ 0 ∷ 1 ∷ 4097 ∷ 4 ∷ 0 ∷ [])
 
 -- a store for two descriptors
 abbrev lent : List ℕ
-lent = replicate 12 7
+lent = replicate (2 * row-words) 165
 
 -- it answers what another does, everywhere
 abbrev pub Equals : Call → Call → Type 0
@@ -62,7 +62,7 @@ answers-p2 f h e = let k = ap (λ (a : Answer). a .code) (sym (h [] lent) ∙ e 
 pub writes-nothing : (f : Call) → ((s w : List ℕ) → f s w .store ≡ w) → Equals f one → ⊥
 writes-nothing f h e =
     let k : lent ≡ one p2 lent .store = sym (h p2 lent) ∙ ap (λ (a : Answer). a .store) (e p2 lent) in
-    let j : _≡_ {A = ℕ} 7 0 = ap (λ (l : List ℕ). getD l 0 0) k ∙ p2-store in
+    let j : _≡_ {A = ℕ} 165 0 = ap (λ (l : List ℕ). getD l 0 0) k ∙ p2-store in
     omega arith
 
 -- one that reports a step count of its own making: of the input's length, the code, the position and the descriptors, and not of the items

@@ -12,7 +12,7 @@ use lib.Seq.{drop-at}
 use Rattle.reading.specs.Script.{Value, Found}
 use Rattle.reading.specs.Cursor.{Out, got, stop, follow}
 use Rattle.reading.specs.Layout.{datagram}
-use Rattle.reading.specs.Answer.{limit, limited, from, nobody, size, rows, room, Header, header-of, no-header, Answer, refused, stored, one, datagrams, run}
+use Rattle.reading.specs.Answer.{limit, limited, from, nobody, row-words, size, rows, room, Header, header-of, no-header, Answer, refused, stored, one, datagrams, run}
 use Rattle.reading.proofs.Items.{either}
 use Rattle.reading.proofs.Stored.{rows-length}
 
@@ -23,7 +23,7 @@ pub record Kept (w : List ℕ) (a : Answer) : Type 0 where
   pub refused-head : (a .code ≡ 0 → ⊥) → a .head ≡ no-header
   pub refused-needed : (a .code ≡ 0 → ⊥) → (a .code ≡ 9 → ⊥) → a .needed ≡ 0
   -- the words behind the descriptors stay
-  pub behind : drop (6 * a .needed) (a .store) ≡ drop (6 * a .needed) w
+  pub behind : drop (row-words * a .needed) (a .store) ≡ drop (row-words * a .needed) w
   pub words : length (a .store) ≡ length w
 
 refusal-kept : (c i n k : ℕ) (w : List ℕ) → ((c ≡ 9 → ⊥) → k ≡ 0) → Kept w (refused c i n k w)
@@ -35,10 +35,10 @@ module _ (w : List ℕ) (head : List Value → Header) where
   stored-kept (got a p) = go (leb (size (a .ranges)) (room w)) refl
     where
       m : ℕ
-      m = 6 * size (a .ranges)
+      m = row-words * size (a .ranges)
 
       go : (b : Bool) → leb (size (a .ranges)) (room w) ≡ b
-          → Kept w (cond b (record { code = 0; at = p .at; steps = p .steps; needed = size (a .ranges); head = head (a .values); store = rows 0 nobody (a .ranges) ++ drop (6 * size (a .ranges)) w })
+          → Kept w (cond b (record { code = 0; at = p .at; steps = p .steps; needed = size (a .ranges); head = head (a .values); store = rows 0 nobody (a .ranges) ++ drop (row-words * size (a .ranges)) w })
           (refused 9 0 (p .steps) (size (a .ranges)) w))
       go true e =
           let l = rows-length 0 nobody (a .ranges) in
@@ -47,8 +47,8 @@ module _ (w : List ℕ) (head : List Value → Header) where
             refused-store = λ z. absurd (z refl);
             refused-head = λ z. absurd (z refl);
             refused-needed = λ z. absurd (z refl);
-            behind = drop-at (rows 0 nobody (a .ranges)) (drop (6 * size (a .ranges)) w) (6 * size (a .ranges)) l;
-            words = length-append (rows 0 nobody (a .ranges)) (drop (6 * size (a .ranges)) w) ∙ rw (l, length-drop) (omega arith);
+            behind = drop-at (rows 0 nobody (a .ranges)) (drop (row-words * size (a .ranges)) w) (row-words * size (a .ranges)) l;
+            words = length-append (rows 0 nobody (a .ranges)) (drop (row-words * size (a .ranges)) w) ∙ rw (l, length-drop) (omega arith);
           }
       go false e = refusal-kept 9 0 (p .steps) (size (a .ranges)) w (λ z. absurd (z refl))
   stored-kept (stop c a n) = refusal-kept c a n 0 w (λ z. refl)

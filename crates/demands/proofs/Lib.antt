@@ -1,5 +1,6 @@
 pub mod Quarter
 pub mod Kept
+pub mod Aligned
 pub mod Nested
 pub mod Siblings
 pub mod Placed

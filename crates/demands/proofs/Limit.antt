@@ -164,8 +164,8 @@ unfolding Is datagram-to
 both-datagram n m = record { says = λ o u f k h. both-fields n m header (λ vs. samples-of o vs) .says o u f k h }
   where
     samples-of : (a : ℕ) (vs : List Value) → Both n m
-        (repeat (last-number vs) (sample n) (λ r. here (λ e. give (record { values = vs; ranges = ranged 0 0 0 (between a e) (r .ranges) }))))
-        (repeat (last-number vs) (sample m) (λ r. here (λ e. give (record { values = vs; ranges = ranged 0 0 0 (between a e) (r .ranges) }))))
+        (repeat (last-number vs) (sample n) (λ r. here (λ e. give (record { values = vs; ranges = ranged 0 0 0 a (between a e) (r .ranges) }))))
+        (repeat (last-number vs) (sample m) (λ r. here (λ e. give (record { values = vs; ranges = ranged 0 0 0 a (between a e) (r .ranges) }))))
     samples-of a vs = record {
       says = λ o u f k (x, y, b, i, j, e, en, many, (ey, ef, ej)).
           let r = both-many n m (both-sample n m) (last-number vs) _ _ _ _ many in

@@ -1,4 +1,5 @@
--- Demand 3: in an accepted input each child's range lies inside its parent's, and a sibling starts at or after the end of the one before.
+-- Demand 3: in an accepted input each child's range lies inside its parent's, and a sibling begins at or after the end of the one before, pads
+-- included.
 -- Said of the forest of ranges, by frames; `Placed` says it of the store. Assumes nothing.
 use Prim.Native.Nat.{ℕ, zero, suc, _+_, _-_, _≤_, _<_}
 use mathlib.Core.Path.{_≡_, refl, sym, _∙_, subst}
@@ -8,11 +9,12 @@ use native.Mathlib.Omega.{arith}
 use native.Mathlib.Nat.{le-refl}
 use lib.Dec.{eqb, leb}
 use lib.ListN.{length, take}
-use Rattle.reading.specs.Script.{Value, Forest, _⊕_, Found, nothing, Script, give}
+use Rattle.reading.specs.Script.{Value, Range, Forest, _⊕_, Found, nothing, Script, give}
 use Rattle.reading.specs.Cursor.{Place, Out, got, stop, Reader, times, follow}
 use Rattle.reading.specs.Layout.{Field, fields, Row, _⟼_, _⟼_each_, last-number, opened, ranged, between, framed, pdu, flows, flow, counter, samples, sample, header, depth-limit, datagram-to, datagram}
 use Rattle.reading.specs.Answer.{tried, datagrams}
-use Rattle.demands.specs.Nested.{end, Level, top, inside, Kind-at, Nested, none, next}
+use Rattle.demands.specs.Nested.{end, last, Level, top, inside, Kind-at, Led, Nested, none, next}
+use Rattle.demands.proofs.Aligned.{Words, no-pad, and-then, Aligned, aligned-flow, aligned-sample, aligned-times, aligned-header}
 use Rattle.reading.proofs.Items.{never, split, either}
 use Rattle.reading.proofs.Stands.{place}
 use Rattle.reading.proofs.Bounds.{Owes, owes}
@@ -21,23 +23,28 @@ use Rattle.reading.proofs.Counts.{repeat-is}
 use Rattle.reading.proofs.Frames.{Frame, frame-read, span-length, Pdu, pdu-read}
 use Rattle.reading.proofs.Room.{whole, datagram-is, header-on}
 
+-- a first byte is not behind its range's
+pub led : (v : Level) (r : Range) → Led v r → r .first ≤ r .span .start
+led top r h = omega arith
+led inside r h = omega arith
+
 pub forward : {v : Level} {lo hi : ℕ} {f : Forest} → Nested v lo hi f → lo ≤ hi
 forward (none h) = h
-forward (next {r = r} k h i j) = let a = forward i in let b = forward j in omega arith
+forward (next {v = v} {r = r} k h l i j) = let a = forward i in let b = forward j in let c = led v r l in omega arith
 
 -- from further before
 pub sooner : {v : Level} {lo hi : ℕ} {f : Forest} (m : ℕ) → m ≤ lo → Nested v lo hi f → Nested v m hi f
 sooner {hi = hi} m k (none h) = let z : m ≤ hi = omega arith in none z
-sooner m k (next {r = r} l h i j) = let z : m ≤ r .span .start = omega arith in next l z i j
+sooner m k (next {r = r} l h d i j) = let z : m ≤ r .first = omega arith in next l z d i j
 
 -- to further behind
 pub later : {v : Level} {lo hi : ℕ} {f : Forest} (m : ℕ) → hi ≤ m → Nested v lo hi f → Nested v lo m f
 later {lo = lo} m k (none h) = let z : lo ≤ m = omega arith in none z
-later m k (next l h i j) = next l h i (later m k j)
+later m k (next l h d i j) = next l h d i (later m k j)
 
 pub joined : {v : Level} {lo m hi : ℕ} {f g : Forest} → Nested v lo m f → Nested v m hi g → Nested v lo hi (f ⊕ g)
 joined {lo = lo} (none h) k = sooner lo h k
-joined (next l h i j) k = next l h i (joined j k)
+joined (next l h d i j) k = next l h d i (joined j k)
 
 -- ---- what a reader accepts, it found between where it began and where it ended
 
@@ -97,10 +104,10 @@ orderly-opened (counts {g} {l} {body} o t) f =
 orderly-framed : (kind depth : ℕ) (body : ℕ → Script) → 0 < kind → ((f : ℕ) → Orderly inside (follow (body f))) → Orderly inside (follow (framed kind depth body))
 orderly-framed kind depth body z o s p a q h e = go (frame-read kind depth body s p e)
   where
-    at-start : (f : Frame kind depth body s p a q) → p .at ≤ f .span .start
-    at-start f = omega (arith, f .start)
+    leads : (f : Frame kind depth body s p a q) → p .at + 4 ≤ f .span .start
+    leads f = omega (arith, f .start)
 
-    at-end : (f : Frame kind depth body s p a q) → end (f .span) ≤ q .at
+    at-end : (f : Frame kind depth body s p a q) → last (f .span) ≤ q .at
     at-end f = omega (arith, f .start, f .end)
 
     go : Frame kind depth body s p a q → Nested inside (p .at) (q .at) (a .ranges)
@@ -110,18 +117,18 @@ orderly-framed kind depth body z o s p a q h e = go (frame-read kind depth body 
         let j = onward (body (f .format)) _ (place (f .span .start) (f .steps)) i (f .held) in
         let n = o (f .format) _ (place (f .span .start) (f .steps)) (f .inner) (f .last) i (f .held) in
         subst (λ (b : Found). Nested inside (p .at) (q .at) (b .ranges)) (sym (f .found))
-        (next z (at-start f) (later (end (f .span)) (omega (arith, l, j .1)) n) (none (at-end f)))
+        (next z (le-refl _) (leads f) (later (end (f .span)) (omega (arith, l, j .1)) n) (none (at-end f)))
 
--- from where it begins to where it ends
-spanned : {v : Level} {a e : ℕ} {f : Forest} (kind format depth : ℕ) → Kind-at v kind → Nested inside a e f → Nested v a e (ranged kind format depth (between a e) f)
-spanned {a = a} {e} kind format depth k h =
+-- from where it begins to where it ends, which is whole words, with its first byte at o
+spanned : {v : Level} {a e : ℕ} {f : Forest} (kind format depth o : ℕ) → Kind-at v kind → Led v (record { kind = kind; format = format; span = between a e; depth = depth; first = o }) → Words a e
+    → Nested inside a e f → Nested v o e (ranged kind format depth o (between a e) f)
+spanned {a = a} {e} kind format depth o k d w h =
     let l = forward h in
-    let z : a ≤ a = omega arith in
-    let x : a + (e - a) ≤ e = omega arith in
-    next k z (later (a + (e - a)) (omega arith) h) (none x)
+    let x : last (between a e) ≤ e = omega (arith, no-pad w) in
+    next k (le-refl _) d (later (a + (e - a)) (omega arith) h) (none x)
 
-orderly-pdu : (depth : ℕ) (body : Script) → Orderly inside (follow body) → Orderly inside (follow (pdu depth body))
-orderly-pdu depth body o s p a q h e = go (pdu-read depth body s p e)
+orderly-pdu : (depth : ℕ) (body : Script) → Aligned (follow body) → Orderly inside (follow body) → Orderly inside (follow (pdu depth body))
+orderly-pdu depth body w o s p a q h e = go (pdu-read depth body s p e)
   where
     four : _<_ 0 4
     four = omega arith
@@ -129,7 +136,7 @@ orderly-pdu depth body o s p a q h e = go (pdu-read depth body s p e)
     go : Pdu depth body s p a q → Nested inside (p .at) (q .at) (a .ranges)
     go f =
         subst (λ (b : Found). Nested inside (p .at) (q .at) (b .ranges)) (sym (f .found))
-        (sooner (p .at) (omega (arith, f .start)) (spanned 4 0 depth four (orderly-times body o (f .count) s (f .first) (f .inner) q (rw (f .start) (f .fits)) (f .held))))
+        (spanned 4 0 depth (p .at) four (omega (arith, f .start)) (aligned-times body w (f .count) s (f .first) (f .inner) q (f .held)) (orderly-times body o (f .count) s (f .first) (f .inner) q (rw (f .start) (f .fits)) (f .held)))
 
 orderly-flows : (inner : Script) → Orderly inside (follow inner) → Rows (flows inner)
 unfolding flows
@@ -141,7 +148,7 @@ unfolding flow follow
 orderly-flow limit zero = λ s p a q h e. never e
 orderly-flow limit (suc left) =
     let inner = pdu (limit - left) (flow limit left) in
-    orderly-framed 2 (limit - left) (opened (flows inner)) (omega arith) (orderly-opened (orderly-flows inner (orderly-pdu (limit - left) (flow limit left) (orderly-flow limit left))))
+    orderly-framed 2 (limit - left) (opened (flows inner)) (omega arith) (orderly-opened (orderly-flows inner (orderly-pdu (limit - left) (flow limit left) (aligned-flow limit left) (orderly-flow limit left))))
 
 orderly-sample : (limit : ℕ) → Orderly inside (follow (sample limit))
 unfolding samples
@@ -157,7 +164,8 @@ datagram-nested limit s p a q h e =
     let w = split (fields-out header s p) _ (sym (datagram-is limit s p) ∙ e) in
     let i = header-on s p h (w .first) in
     let v = split (times (last-number (w .value)) (follow (sample limit)) s (w .place)) _ (w .second) in
-    moved {a = whole (p .at) (w .value) (v .value) (v .place)} (v .second) (spanned 0 0 0 refl (sooner (p .at) (omega (arith, i .0)) (orderly-times (sample limit) (orderly-sample limit) (last-number (w .value)) s (w .place) (v .value) (v .place) (i .1) (v .first))))
+    let k = and-then (aligned-header s p (w .value) (w .place) (w .first)) (aligned-times (sample limit) (aligned-sample limit) (last-number (w .value)) s (w .place) (v .value) (v .place) (v .first)) in
+    moved {a = whole (p .at) (w .value) (v .value) (v .place)} (v .second) (spanned 0 0 0 (p .at) refl refl k (sooner (p .at) (omega (arith, i .0)) (orderly-times (sample limit) (orderly-sample limit) (last-number (w .value)) s (w .place) (v .value) (v .place) (i .1) (v .first))))
 
 pub run-nested : (fuel : ℕ) → Orderly top (datagrams fuel)
 unfolding datagrams tried

@@ -1,5 +1,5 @@
--- Demand 3, of the descriptors in the store: a descriptor's range lies inside its parent's, and of two with one parent the second starts
--- at or after the end of the first. For one datagram, and for a run. Assumes nothing.
+-- Demand 3, of the descriptors in the store: a descriptor's range lies inside its parent's with its pad, and of two with one parent the second's
+-- first byte is at or after the end of the first's pad. For one datagram, and for a run. Assumes nothing.
 use Prim.Native.Nat.{ℕ, zero, suc, _+_, _*_, _-_, _≤_, _<_}
 use mathlib.Core.Path.{_≡_, refl, sym, ap, _∙_, subst}
 use mathlib.Core.Bool.{Bool, true, false, cond}
@@ -11,20 +11,22 @@ use lib.ListN.{length, drop}
 use Rattle.reading.specs.Script.{Value, Forest, bare, tree, Found}
 use Rattle.reading.specs.Cursor.{Place, Out, got, stop, follow}
 use Rattle.reading.specs.Layout.{depth-limit, datagram}
-use Rattle.reading.specs.Answer.{limit, limited, from, nobody, size, rows, room, Header, header-of, no-header, Answer, refused, stored, one, datagrams, run}
+use Rattle.reading.specs.Answer.{limit, limited, from, nobody, row-words, size, rows, room, Header, header-of, no-header, Answer, refused, stored, one, datagrams, run}
 use Rattle.reading.proofs.Items.{either}
 use Rattle.reading.proofs.Stored.{rows-length}
+use Rattle.reading.proofs.Room.{datagram-on}
+use Rattle.reading.proofs.Runs.{thrifty-datagrams}
 use Rattle.reading.proofs.Descriptors.{entry, entry-past-one, entry-past}
 use Rattle.reading.proofs.Faults.{Sure, fault}
 use Rattle.reading.proofs.Codes.{sure-datagram, sure-run}
 use Rattle.demands.proofs.Quarter.{one-size, run-size}
 use Rattle.demands.specs.Nested.{top, Nested, Row, row, In-place}
-use Rattle.demands.proofs.Nested.{datagram-nested, run-nested}
-use Rattle.demands.proofs.Siblings.{In, this, within, behind, Parent, own, before, parted, Outside, over, root-parent, root-kind, parent-holds, siblings-apart}
+use Rattle.demands.proofs.Nested.{later, datagram-nested, run-nested}
+use Rattle.demands.proofs.Siblings.{In, this, within, behind, Parent, own, before, parted, in-bounds, Outside, over, root-parent, root-first, root-kind, Held, parent-holds, siblings-apart}
 
 same : (v w : List ℕ) (i j : ℕ) → ((k : ℕ) → entry v i k ≡ entry w j k) → row v i ≡ row w j
 unfolding row
-same v w i j e = λ t. record { kind = e 0 t; span = record { start = e 2 t; count = e 3 t }; parent = e 4 t }
+same v w i j e = λ t. record { kind = e 0 t; span = record { start = e 2 t; count = e 3 t }; parent = e 4 t; first = e 6 t }
 
 stands-in : (f : Forest) (j p i k : ℕ) (rest : List ℕ) → i < size f → k ≡ j + i → In f j p k (row (rows j p f ++ rest) i)
 unfolding rows size row
@@ -35,7 +37,7 @@ stands-in (tree r a b) j p (suc i) k rest h e =
     let y = rows (j + 1 + size a) p b ++ rest in
     let z = (x ++ rows (j + 1 + size a) p b) ++ rest in
     subst (In (tree r a b) j p k)
-    (sym (same (rows j p (tree r a b) ++ rest) z (suc i) i (entry-past-one (r .kind) (r .format) (r .span .start) (r .span .count) p (r .depth) i z)
+    (sym (same (rows j p (tree r a b) ++ rest) z (suc i) i (entry-past-one p r i z)
     ∙ ap (λ (l : List ℕ). row l i) (append-assoc x (rows (j + 1 + size a) p b) rest)))
     (go (λ l. stands-in a (j + 1) j i k y l (omega arith)) (λ l. stands-in b (j + 1 + size a) p (i - size a) k rest l) (λ l. same (x ++ y) y i (i - size a) (entry-past x y (size a) i (rows-length (j + 1) j a) l)) (leb (size a) i) refl)
   where
@@ -58,44 +60,52 @@ module _ (f : Forest) {lo hi : ℕ} (nested : Nested top lo hi f) (few : size f 
       go (own e) = absurd (z (root-kind nested outside (listed i h) e))
       go (before u v) = v
 
-  pub rows-in-place : In-place (rows 0 nobody f ++ rest) (size f)
+  held : (i : ℕ) → i < size f → (row (rows 0 nobody f ++ rest) i .kind ≡ 0 → ⊥) → Held (row (rows 0 nobody f ++ rest) i) (row (rows 0 nobody f ++ rest) (row (rows 0 nobody f ++ rest) i .parent))
+  held i h z = let l = first i h z in parent-holds nested outside (listed i h) (listed (row (rows 0 nobody f ++ rest) i .parent) (omega arith)) refl
+
+  pub rows-in-place : In-place (rows 0 nobody f ++ rest) (size f) hi
   rows-in-place =
       record {
         no-parent = λ i h z. root-parent nested (listed i h) z;
         parent-before = first;
-        parent-holds = λ i h z. let l = first i h z in parent-holds nested outside (listed i h) (listed (row (rows 0 nobody f ++ rest) i .parent) (omega arith)) refl;
+        parent-holds = λ i h z. let e = held i h z in (omega (arith, e .from, e .leads), omega (arith, e .to));
+        pad-inside = λ i h z. held i h z .to;
+        own-first = λ i h z. root-first nested (listed i h) z;
+        first-inside = λ i h z. let e = held i h z in (e .from, omega (arith, e .leads, e .to));
+        first-before = λ i h. in-bounds nested (listed i h) .1;
+        all-there = λ i h. in-bounds nested (listed i h) .2;
         siblings-apart = λ i k l h z. siblings-apart nested outside (listed i (omega arith)) (listed k h) l z;
       }
 
 -- ---- of an answer
 
-abbrev pub Placed : Answer → Type 0
-Placed a = a .code ≡ 0 → In-place (a .store) (a .needed)
+abbrev pub Placed : List ℕ → Answer → Type 0
+Placed s a = a .code ≡ 0 → In-place (a .store) (a .needed) (length s)
 
 module _ (s w : List ℕ) where
-  stored-placed : (head : List Value → Header) (o : Out Found) → Sure o → ((a : Found) (q : Place) → o ≡ got a q → Nested top 0 (q .at) (a .ranges))
-      → ((a : Found) (q : Place) → o ≡ got a q → 4 * size (a .ranges) ≤ length s) → length s ≤ limit → Placed (stored head o w)
+  stored-placed : (head : List Value → Header) (o : Out Found) → Sure o → ((a : Found) (q : Place) → o ≡ got a q → Nested top 0 (length s) (a .ranges))
+      → ((a : Found) (q : Place) → o ≡ got a q → 4 * size (a .ranges) ≤ length s) → length s ≤ limit → Placed s (stored head o w)
   unfolding stored
   stored-placed head (got a q) t n f short =
       let k = f a q refl in
-      either Placed (leb (size (a .ranges)) (room w)) (λ z. rows-in-place (a .ranges) (n a q refl) (omega arith) (drop (6 * size (a .ranges)) w)) (λ z. absurd (omega arith))
+      either (Placed s) (leb (size (a .ranges)) (room w)) (λ z. rows-in-place (a .ranges) (n a q refl) (omega arith) (drop (row-words * size (a .ranges)) w)) (λ z. absurd (omega arith))
   stored-placed head (stop c a n) (fault k) m f short = λ z. absurd (omega arith)
 
-  within-limit : (x : Answer) → (length s ≤ limit → Placed x) → Placed (limited s x (refused 1 0 0 0 w))
+  within-limit : (x : Answer) → (length s ≤ limit → Placed s x) → Placed s (limited s x (refused 1 0 0 0 w))
   within-limit x h = go (leb (length s) limit) refl
     where
-      go : (b : Bool) → leb (length s) limit ≡ b → Placed (cond b x (refused 1 0 0 0 w))
+      go : (b : Bool) → leb (length s) limit ≡ b → Placed s (cond b x (refused 1 0 0 0 w))
       go true e = h (leb-true (length s) limit e)
       go false e = λ z. absurd (omega arith)
 
-  pub one-placed : Placed (one s w)
+  pub one-placed : Placed s (one s w)
   unfolding one
   one-placed =
       within-limit _ (stored-placed header-of (follow datagram s (from 0)) (sure-datagram s (from 0))
-      (λ a q e. datagram-nested depth-limit s (from 0) a q (omega arith) e) (one-size s w))
+      (λ a q e. later (length s) (datagram-on depth-limit s (from 0) (omega arith) e .1) (datagram-nested depth-limit s (from 0) a q (omega arith) e)) (one-size s w))
 
-  pub run-placed : Placed (run s w)
+  pub run-placed : Placed s (run s w)
   unfolding run
   run-placed =
       within-limit _ (stored-placed (λ _. no-header) (datagrams (length s) s (from 0)) (sure-run (length s) s (from 0))
-      (λ a q e. run-nested (length s) s (from 0) a q (omega arith) e) (run-size s w))
+      (λ a q e. later (length s) (thrifty-datagrams s (length s) (from 0) (omega arith) e .1) (run-nested (length s) s (from 0) a q (omega arith) e)) (run-size s w))

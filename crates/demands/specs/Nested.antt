@@ -1,14 +1,18 @@
 -- Ranges that lie inside one another and one after another: of a forest, and of the descriptors in a store. Definitions only. Assumes nothing.
-use Prim.Native.Nat.{ℕ, _+_, _*_, _≤_, _<_}
+use Prim.Native.Nat.{ℕ, _+_, _*_, _-_, _≤_, _<_}
 use mathlib.Core.Path.{_≡_}
 use mathlib.Core.List.{List}
 use lib.ListN.{getD}
+use Rattle.reading.specs.Bytes.{padded}
 use Rattle.reading.specs.Script.{Span, Range, Forest, bare, tree}
-use Rattle.reading.specs.Answer.{nobody}
+use Rattle.reading.specs.Answer.{nobody, row-words, whole-span}
 
--- where a range ends
+-- where a range ends, and where all of what it is the range of does: behind the pad
 abbrev pub end : Span → ℕ
 end x = x .start + x .count
+
+abbrev pub last : Span → ℕ
+last x = x .start + padded (x .count)
 
 -- where ranges stand: at the top, where each is a datagram's (kind 0), or inside another, where none is
 pub data Level : Type 0 where
@@ -18,31 +22,60 @@ abbrev pub Kind-at : Level → ℕ → Type 0
 Kind-at top k = k ≡ 0
 Kind-at inside k = 0 < k
 
--- the ranges of a forest lie between lo and hi, one after another, and in each lie those inside it
+-- how its first byte stands to its range: a datagram's is the range's own; any other's is that of a word before it
+abbrev pub Led : Level → Range → Type 0
+Led top r = r .first ≡ r .span .start
+Led inside r = r .first + 4 ≤ r .span .start
+
+-- the ranges of a forest lie between lo and hi, one after another, counted from their first bytes to their pads, and in each lie those inside it
 pub data Nested : Level → (lo hi : ℕ) → Forest → Type 0 where
   none : {v : Level} {lo hi : ℕ} → lo ≤ hi → Nested v lo hi bare
-  next : {v : Level} {lo hi : ℕ} {r : Range} {inner after : Forest} → Kind-at v (r .kind) → lo ≤ r .span .start
-      → Nested inside (r .span .start) (end (r .span)) inner → Nested v (end (r .span)) hi after → Nested v lo hi (tree r inner after)
+  next : {v : Level} {lo hi : ℕ} {r : Range} {inner after : Forest} → Kind-at v (r .kind) → lo ≤ r .first → Led v r
+      → Nested inside (r .span .start) (end (r .span)) inner → Nested v (last (r .span)) hi after → Nested v lo hi (tree r inner after)
 
 -- one range lies inside another
 abbrev pub Inside : Span → Span → Type 0
 Inside x y = (y .start ≤ x .start) × (end x ≤ end y)
 
--- what a descriptor says of its place: its kind, its range, and its parent's index
+-- a position is that of a byte of a range
+abbrev pub Byte-of : ℕ → Span → Type 0
+Byte-of o y = (y .start ≤ o) × (o < end y)
+
+-- what a descriptor says of its place: its kind, its range, its parent's index, and its first byte
 pub record Row : Type 0 where
   pub kind : ℕ
   pub span : Span
   pub parent : ℕ
+  pub first : ℕ
 
 unfoldable pub row : (store : List ℕ) → (index : ℕ) → Row
-row w i = record { kind = getD w (6 * i + 0) 0; span = record { start = getD w (6 * i + 2) 0; count = getD w (6 * i + 3) 0 }; parent = getD w (6 * i + 4) 0 }
+row w i = record {
+  kind = getD w (row-words * i + 0) 0;
+  span = record { start = getD w (row-words * i + 2) 0; count = getD w (row-words * i + 3) 0 };
+  parent = getD w (row-words * i + 4) 0;
+  first = getD w (row-words * i + 6) 0;
+}
 
--- the descriptors of a store, so many of them, are in place
-pub record In-place (w : List ℕ) (n : ℕ) : Type 0 where
+-- all of what a descriptor stands for, from its first byte to the end of its pad; and what is answered of it
+abbrev pub all-of : Row → Span
+all-of r = record { start = r .first; count = last (r .span) - r .first }
+
+abbrev pub whole-of : List ℕ → Row → Span
+whole-of s r = whole-span s (r .span .start) (r .span .count) (r .first)
+
+-- the descriptors of a store, so many of them, are in place in an input of this length
+pub record In-place (w : List ℕ) (n size : ℕ) : Type 0 where
   -- a datagram's has no parent
   pub no-parent : (i : ℕ) → i < n → row w i .kind ≡ 0 → row w i .parent ≡ nobody
-  -- any other has its parent before itself, and lies inside it
+  -- any other has its parent before itself, and lies inside it, with its pad
   pub parent-before : (i : ℕ) → i < n → (row w i .kind ≡ 0 → ⊥) → row w i .parent < i
   pub parent-holds : (i : ℕ) → i < n → (row w i .kind ≡ 0 → ⊥) → Inside (row w i .span) (row w (row w i .parent) .span)
-  -- of two with one parent the second starts at or after the end of the first
-  pub siblings-apart : (i k : ℕ) → i < k → k < n → row w i .parent ≡ row w k .parent → end (row w i .span) ≤ row w k .span .start
+  pub pad-inside : (i : ℕ) → i < n → (row w i .kind ≡ 0 → ⊥) → last (row w i .span) ≤ end (row w (row w i .parent) .span)
+  -- a datagram's first byte is its range's; any other's is a byte of its parent's range, and its own range begins at least a word later
+  pub own-first : (i : ℕ) → i < n → row w i .kind ≡ 0 → row w i .first ≡ row w i .span .start
+  pub first-inside : (i : ℕ) → i < n → (row w i .kind ≡ 0 → ⊥) → Byte-of (row w i .first) (row w (row w i .parent) .span)
+  pub first-before : (i : ℕ) → i < n → row w i .first ≤ row w i .span .start
+  -- the input has all of it
+  pub all-there : (i : ℕ) → i < n → last (row w i .span) ≤ size
+  -- of two with one parent the second's first byte is at or after the end of the first's pad
+  pub siblings-apart : (i k : ℕ) → i < k → k < n → row w i .parent ≡ row w k .parent → last (row w i .span) ≤ row w k .first

@@ -6,7 +6,7 @@ use lib.ListN.{length, drop}
 use Rattle.reading.specs.Script.{Found}
 use Rattle.reading.specs.Grammar.{Is}
 use Rattle.reading.specs.Layout.{depth-limit, datagram-to}
-use Rattle.reading.specs.Answer.{nobody, size, rows, header-of, Answer}
+use Rattle.reading.specs.Answer.{nobody, row-words, size, rows, header-of, Answer}
 use Rattle.demands.specs.Depths.{Shallow}
 
 -- a reading of s by the grammar, of whatever depth: s begins with bytes that are a datagram, and `rest` is left over
@@ -30,7 +30,7 @@ pub record Answers (w : List ℕ) (f : Found) (bytes items : ℕ) (a : Answer) :
   pub steps : a .steps ≡ items
   pub needed : a .needed ≡ size (f .ranges)
   pub head : a .head ≡ header-of (f .values)
-  pub store : a .store ≡ rows 0 nobody (f .ranges) ++ drop (6 * size (f .ranges)) w
+  pub store : a .store ≡ rows 0 nobody (f .ranges) ++ drop (row-words * size (f .ranges)) w
 
 -- what code 0 says
 pub record Accepted (s w : List ℕ) (a : Answer) : Type 0 where

@@ -4,7 +4,7 @@ use mathlib.Core.Path.{_≡_}
 use mathlib.Core.List.{List, _++_}
 use lib.ListN.{length, drop}
 use Rattle.reading.specs.Script.{Forest}
-use Rattle.reading.specs.Answer.{limit, nobody, size, rows, room, no-header, Answer, refused}
+use Rattle.reading.specs.Answer.{limit, nobody, row-words, size, rows, room, no-header, Answer, refused}
 use Rattle.demands.specs.Tries.{Run, Run-stops}
 
 -- what is answered where a run of these ranges is accepted into the store w
@@ -14,7 +14,7 @@ pub record Run-answers (w : List ℕ) (g : Forest) (end items : ℕ) (a : Answer
   pub steps : a .steps ≡ items
   pub needed : a .needed ≡ size g
   pub head : a .head ≡ no-header
-  pub store : a .store ≡ rows 0 nobody g ++ drop (6 * size g) w
+  pub store : a .store ≡ rows 0 nobody g ++ drop (row-words * size g) w
 
 -- what code 0 says
 pub record Run-accepted (s w : List ℕ) (a : Answer) : Type 0 where

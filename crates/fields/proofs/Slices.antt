@@ -1,4 +1,4 @@
--- Parts of the input: a payload, a list's words, an AS path's segments. Assumes nothing.
+-- Parts of the input: a payload, all of a record, a list's words, an AS path's segments. Assumes nothing.
 use Prim.Native.Nat.{ℕ, _+_, _*_, _-_, _/_, _^_, _≤_, _<_}
 use mathlib.Core.Path.{_≡_, refl, _∙_}
 use mathlib.Core.Bool.{Bool, true, false, cond}
@@ -10,11 +10,11 @@ use lib.Dec.{leb}
 use lib.ListN.{length, take, drop}
 use mir.Syntax.{w64}
 use mir.Val.{Fits}
-use Rattle.reading.specs.Bytes.{be4}
+use Rattle.reading.specs.Bytes.{be4, padded}
 use Rattle.reading.specs.Script.{Value}
 use Rattle.reading.specs.Cursor.{stop}
 use Rattle.reading.specs.Values.{valued}
-use Rattle.reading.specs.Answer.{answered, no-span, payload-span, payload, list-word, segment-fields, segment-at}
+use Rattle.reading.specs.Answer.{answered, no-span, payload-span, whole-span, payload, list-word, segment-fields, segment-at}
 use Rattle.xdr.specs.declared.Outcome.{Outcome}
 use Rattle.xdr.specs.declared.Span.{Span}
 use Rattle.xdr.specs.declared.Passed.{Passed}
@@ -60,6 +60,27 @@ module _ (s : List ℕ) (start extent : ℕ) where
     payload-part =
         let n : x .start + x .count - x .start ≡ x .count = omega arith in
         rw (n, ← e)
+
+-- ---- all of it
+
+module _ (s : List ℕ) (start extent first : ℕ) where
+  pub whole-long : 16777216 < length s → no-span ≡ whole-span s start extent first
+  unfolding whole-span
+  whole-long h = rw (lt-leb (length s) 16777216 h)
+
+  module _ (h : length s ≤ 16777216) where
+    pub whole-behind : start < first → no-span ≡ whole-span s start extent first
+    unfolding whole-span
+    whole-behind k = rw (le-leb (length s) 16777216 h, lt-leb first start k)
+
+    module _ {p : ℕ} (k : first ≤ start) (e : p ≡ padded extent) where
+      pub whole-far : length s < start + p → no-span ≡ whole-span s start extent first
+      unfolding whole-span
+      whole-far l = rw (le-leb (length s) 16777216 h, le-leb first start k, lt-leb (start + padded extent) (length s) (rw e at l))
+
+      pub whole-there : start + p ≤ length s → record { start = first; count = start + p - first } ≡ whole-span s start extent first
+      unfolding whole-span
+      whole-there l = rw (le-leb (length s) 16777216 h, le-leb first start k, le-leb (start + padded extent) (length s) (rw e at l), e)
 
 -- ---- a word of a list
 
@@ -116,4 +137,4 @@ module _ {s : List ℕ} {at : ℕ} {p : Passed} (b : Begins s at p) where
   pub segment-so : {o : Outcome} {vs : List Value} → Answers segment-fields s p o vs → answer-of o vs ≡ segment-at s at
   segment-so a = a .is ∙ b .is
 
-pub ruleset parts = (payload-long, payload-far, payload-there, payload-inside, payload-fits, payload-part, list-short, list-far, list-cut, list-there, word-there, begins-long, begins-far, begins-there, begins-within, segment-so, needs)
+pub ruleset parts = (payload-long, payload-far, payload-there, payload-inside, payload-fits, payload-part, whole-long, whole-behind, whole-far, whole-there, list-short, list-far, list-cut, list-there, word-there, begins-long, begins-far, begins-there, begins-within, segment-so, needs)

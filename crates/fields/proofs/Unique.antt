@@ -8,7 +8,7 @@ use Rattle.reading.specs.Script as script
 use Rattle.reading.specs.Script.{Value, number, integer, octets, address, part}
 use Rattle.reading.specs.Layout.{num, oct}
 use Rattle.reading.specs.Answer as answer
-use Rattle.reading.specs.Answer.{Fields, kind-of, no-span, payload-span, payload, list-word, segment-at}
+use Rattle.reading.specs.Answer.{Fields, kind-of, no-span, payload-span, whole-span, payload, list-word, segment-at}
 use Rattle.xdr.specs.declared.Address.{Address}
 use Rattle.xdr.specs.declared.Outcome.{Outcome}
 use Rattle.xdr.specs.declared.Span.{Span}
@@ -164,6 +164,9 @@ module _ (s : List ℕ) (d : Descriptor) where
 module _ (s : List ℕ) where
   pub payload-span-unique : (d : Descriptor) → Unique span (payload-span s (d .start) (d .length))
   payload-span-unique d r q e u = ap back (e ∙ sym u)
+
+  pub whole-span-unique : (d : Descriptor) → Unique span (whole-span s (d .start) (d .length) (d .first))
+  whole-span-unique d r q e u = ap back (e ∙ sym u)
 
   -- the bytes handed back: where they lie is `payload_span`'s answer
   pub payload-unique : (d : Descriptor) → Unique (λ (r : List ℕ). r) (payload s (d .start) (d .length))

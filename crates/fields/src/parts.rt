@@ -1,6 +1,6 @@
-// Parts of the input that an answer names: a payload, the words of a list, the segments of an AS path.
+// Parts of the input that an answer names: a payload, all of a record, the words of a list, the segments of an AS path.
 ghost use mathlib.Core.Path.{_≡_};
-ghost use Rattle.reading.specs.Answer.{payload-span, payload, list-word, segment-at};
+ghost use Rattle.reading.specs.Answer.{payload-span, whole-span, payload, list-word, segment-at};
 ghost use Rattle.xdr.specs.Shown.{span, answer-of};
 ghost use Rattle.flows.specs.Shown.{a-segment};
 ghost use Rattle.fields.specs.Shown.{listed, Begins};
@@ -27,6 +27,28 @@ pub fn payload_span(s: &[u8], d: Descriptor) -> Span
     Span {
         start: start,
         count: count,
+    }
+}
+
+// Where all of it lies, from its first byte to the end of its pad: what a relay forwards. It is empty likewise.
+pub fn whole_span(s: &[u8], d: Descriptor) -> Span
+    ensures { λ r. ⌜ span r ≡ whole-span (now (s .entry)) (d .start) (d .length) (d .first) ⌝ }
+{
+    let first = d.first as usize;
+    let start = d.start as usize;
+    let end = start + load::padded(d.length as usize);
+    if 16777216 < s.len() {
+        return Span { start: 0, count: 0 };
+    }
+    if start < first {
+        return Span { start: 0, count: 0 };
+    }
+    if s.len() < end {
+        return Span { start: 0, count: 0 };
+    }
+    Span {
+        start: first,
+        count: end - first,
     }
 }
 

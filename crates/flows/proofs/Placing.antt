@@ -1,7 +1,7 @@
 -- The second pass: a law for each need of its functions, with the facts that the code has there. Assumes nothing.
 use Prim.Native.Nat.{ℕ, zero, suc, _+_, _*_, _-_, _/_, _%_, _≤_, _<_}
 use mathlib.Core.Path.{_≡_, refl, sym, ap, _∙_}
-use mathlib.Core.List.{List, [], _∷_, _++_}
+use mathlib.Core.List.{List, _++_}
 use native.Mathlib.Omega.{arith}
 use native.Mathlib.Nat.{add-zero}
 use borrow.Author.Needs.{needs}
@@ -12,7 +12,7 @@ use Rattle.reading.specs.Bytes.{be4, padded}
 use Rattle.reading.specs.Script.{Range, Forest, bare, tree, _⊕_, Found, Script}
 use Rattle.reading.specs.Cursor.{Out, times, follow}
 use Rattle.reading.specs.Layout.{words, last-number, opened, ranged, between, framed, flows, flow, pdu}
-use Rattle.reading.specs.Answer.{size, rows, from}
+use Rattle.reading.specs.Answer.{row-words, size, row-of, rows, from}
 use Rattle.reading.proofs.Words.{numbers, row-got}
 use Rattle.reading.proofs.Counts.{size-joined}
 use Rattle.reading.proofs.Stored.{write, write-length, write-none, write-then, write-under, rows-length, rows-joined, rows-one}
@@ -22,7 +22,7 @@ use Rattle.reading.proofs.Forward.{forward-times}
 use Rattle.flows.specs.declared.put.Pen.{Pen}
 use Rattle.flows.specs.declared.put.Flat.{Flat}
 use Rattle.flows.specs.Passing.{Flat-of}
-use Rattle.flows.specs.Written.{Ready, Put, packed, a-pen, placed, Filled, filled, fills, Framed-here, framed-at}
+use Rattle.flows.specs.Written.{Ready, Put, packed, a-pen, placed, Filled, filled, fills, Framed-here, frame-range, framed-at}
 
 abbrev pub a-put : (at next : ℕ) → List ℕ → Put
 a-put a n l = record { at = a; next = n; store = l }
@@ -37,7 +37,7 @@ module _ {a b : ℕ} {l′ : List ℕ} (pen : Pen) (o : Out Found) (l : List ℕ
   unfolding placed
   next-is = ap (λ (x : Put). x .next) e
 
-  pub store-is : l′ ≡ write l (6 * pen .next) (rows (pen .base + pen .next) (pen .parent) (ranges-of o))
+  pub store-is : l′ ≡ write l (row-words * pen .next) (rows (pen .base + pen .next) (pen .parent) (ranges-of o))
   unfolding placed
   store-is = ap (λ (x : Put). x .store) e
 
@@ -50,18 +50,18 @@ kept-on pen o l n e k = put-kept pen o l e ∙ k
 
 -- one forest behind another is placed as the two of them
 module _ (base parent next : ℕ) (l : List ℕ) where
-  pub two-placed : {a b c m : ℕ} {t : Forest} {l″ : List ℕ} (f r : Forest) → b ≡ c → a ≡ b → t ≡ f ⊕ r → m ≡ next + size f → l″ ≡ write l (6 * next) (rows (base + next) parent f)
-      → a-put c (m + size r) (write l″ (6 * m) (rows (base + m) parent r)) ≡ a-put a (next + size t) (write l (6 * next) (rows (base + next) parent t))
+  pub two-placed : {a b c m : ℕ} {t : Forest} {l″ : List ℕ} (f r : Forest) → b ≡ c → a ≡ b → t ≡ f ⊕ r → m ≡ next + size f → l″ ≡ write l (row-words * next) (rows (base + next) parent f)
+      → a-put c (m + size r) (write l″ (row-words * m) (rows (base + m) parent r)) ≡ a-put a (next + size t) (write l (row-words * next) (rows (base + next) parent t))
   two-placed {a} {b} {c} {m} {t} {l″} f r i j k x y =
       let p : m + size r ≡ next + size t = ap (λ (v : ℕ). v + size r) x ∙ rw (k, size-joined) (omega arith) in
       let q : base + m ≡ base + next + size f = omega arith in
-      let v : 6 * m ≡ 6 * next + length (rows (base + next) parent f) = rw rows-length (omega arith) in
-      let d : write l″ (6 * m) (rows (base + m) parent r) ≡ write l (6 * next) (rows (base + next) parent t) =
-      ap (λ (z : List ℕ). write z (6 * m) (rows (base + m) parent r)) y
-      ∙ write-then (rows (base + next) parent f) (rows (base + m) parent r) l (6 * next) (6 * m) v
-      ∙ ap (λ (z : ℕ). write l (6 * next) (rows (base + next) parent f ++ rows z parent r)) q
-      ∙ ap (λ (z : List ℕ). write l (6 * next) z) (sym (rows-joined (base + next) parent f r))
-      ∙ ap (λ (z : Forest). write l (6 * next) (rows (base + next) parent z)) (sym k) in
+      let v : row-words * m ≡ row-words * next + length (rows (base + next) parent f) = rw rows-length (omega arith) in
+      let d : write l″ (row-words * m) (rows (base + m) parent r) ≡ write l (row-words * next) (rows (base + next) parent t) =
+      ap (λ (z : List ℕ). write z (row-words * m) (rows (base + m) parent r)) y
+      ∙ write-then (rows (base + next) parent f) (rows (base + m) parent r) l (row-words * next) (row-words * m) v
+      ∙ ap (λ (z : ℕ). write l (row-words * next) (rows (base + next) parent f ++ rows z parent r)) q
+      ∙ ap (λ (z : List ℕ). write l (row-words * next) z) (sym (rows-joined (base + next) parent f r))
+      ∙ ap (λ (z : Forest). write l (row-words * next) (rows (base + next) parent z)) (sym k) in
       λ h. record { at = (sym i ∙ sym j) h; next = p h; store = d h }
 
 -- ---- so many in a row
@@ -114,30 +114,30 @@ module _ (sc : Script) (n : ℕ) (s l : List ℕ) (at base parent next : ℕ) wh
       sym (rw (x .0, x .1, add-zero, write-none)) in
       e ∙ (rw y at h)
 
--- ---- one range: its own six words, and what it holds behind them
+-- ---- one range: its own words, and what it holds behind them
 module _ (l : List ℕ) (base parent next : ℕ) (r : Range) (inner : Forest) where
   abbrev words-of : List ℕ
-  words-of = r .kind ∷ r .format ∷ r .span .start ∷ r .span .count ∷ parent ∷ r .depth ∷ []
+  words-of = row-of parent r
 
-  both-written : write l (6 * next) (words-of ++ rows (base + (next + 1)) (base + next) inner) ≡ write l (6 * next) (rows (base + next) parent (tree r inner bare))
+  both-written : write l (row-words * next) (words-of ++ rows (base + (next + 1)) (base + next) inner) ≡ write l (row-words * next) (rows (base + next) parent (tree r inner bare))
   both-written =
       let k : base + (next + 1) ≡ base + next + 1 = omega arith in
-      ap (λ (z : ℕ). write l (6 * next) (words-of ++ rows z (base + next) inner)) k ∙ ap (λ (z : List ℕ). write l (6 * next) z) (sym (rows-one (base + next) parent r inner))
+      ap (λ (z : ℕ). write l (row-words * next) (words-of ++ rows z (base + next) inner)) k ∙ ap (λ (z : List ℕ). write l (row-words * next) z) (sym (rows-one (base + next) parent r inner))
 
-  six-on : 6 * (next + 1) ≡ 6 * next + length words-of
-  six-on = omega arith
+  row-on : row-words * (next + 1) ≡ row-words * next + length words-of
+  row-on = omega arith
 
   -- first its own
-  own-first : {l′ l″ : List ℕ} → l′ ≡ write l (6 * next) words-of → l″ ≡ write l′ (6 * (next + 1)) (rows (base + (next + 1)) (base + next) inner) → l″ ≡ write l (6 * next) (rows (base + next) parent (tree r inner bare))
+  own-first : {l′ l″ : List ℕ} → l′ ≡ write l (row-words * next) words-of → l″ ≡ write l′ (row-words * (next + 1)) (rows (base + (next + 1)) (base + next) inner) → l″ ≡ write l (row-words * next) (rows (base + next) parent (tree r inner bare))
   own-first h q =
-      q ∙ ap (λ (z : List ℕ). write z (6 * (next + 1)) (rows (base + (next + 1)) (base + next) inner)) h
-      ∙ write-then words-of (rows (base + (next + 1)) (base + next) inner) l (6 * next) (6 * (next + 1)) six-on ∙ both-written
+      q ∙ ap (λ (z : List ℕ). write z (row-words * (next + 1)) (rows (base + (next + 1)) (base + next) inner)) h
+      ∙ write-then words-of (rows (base + (next + 1)) (base + next) inner) l (row-words * next) (row-words * (next + 1)) row-on ∙ both-written
 
   -- or its own last
-  pub own-last : {l′ l″ : List ℕ} → l′ ≡ write l (6 * (next + 1)) (rows (base + (next + 1)) (base + next) inner) → l″ ≡ write l′ (6 * next) words-of → l″ ≡ write l (6 * next) (rows (base + next) parent (tree r inner bare))
+  pub own-last : {l′ l″ : List ℕ} → l′ ≡ write l (row-words * (next + 1)) (rows (base + (next + 1)) (base + next) inner) → l″ ≡ write l′ (row-words * next) words-of → l″ ≡ write l (row-words * next) (rows (base + next) parent (tree r inner bare))
   own-last h q =
-      q ∙ ap (λ (z : List ℕ). write z (6 * next) words-of) h
-      ∙ write-under words-of (rows (base + (next + 1)) (base + next) inner) l (6 * next) (6 * (next + 1)) six-on ∙ both-written
+      q ∙ ap (λ (z : List ℕ). write z (row-words * next) words-of) h
+      ∙ write-under words-of (rows (base + (next + 1)) (base + next) inner) l (row-words * next) (row-words * (next + 1)) row-on ∙ both-written
 
 -- ---- numbers that fit
 module _ (s l : List ℕ) (pen : Pen) (o : Out Found) (g : Ready s l pen o) where
@@ -170,6 +170,9 @@ module _ (left : ℕ) (s l : List ℕ) (at base parent next rest : ℕ) (g : Rea
 
   pub pdu-start32 : Fits w32 (at + 4)
   pdu-start32 = record { fits = omega (arith, pdu-word, g .short) }
+
+  pub pdu-first32 : Fits w32 at
+  pdu-first32 = record { fits = omega (arith, pdu-word, g .short) }
 
   pub pdu-next : Fits w32 next
   pdu-next = record { fits = omega (arith, g .few) }
@@ -204,24 +207,26 @@ module _ (left : ℕ) (s l : List ℕ) (at base parent next rest : ℕ) (g : Rea
       pub pdu-length32 : Fits w32 (a - (at + 4))
       pdu-length32 = record { fits = omega (arith, pdu-end .1, g .short) }
 
-      pub pdu-own : 6 * next + 6 ≤ length l′
+      pub pdu-own : row-words * next + row-words ≤ length l′
       pdu-own = let k = pdu-size in omega (arith, one .room, put-kept (a-pen base (base + next) (next + 1)) _ l e)
 
-      module _ {l″ : List ℕ} (q : l″ ≡ write l′ (6 * next) (4 ∷ 0 ∷ (at + 4) ∷ (a - (at + 4)) ∷ parent ∷ (8 - left) ∷ [])) where
+      abbrev own-range : Range
+      own-range = record { kind = 4; format = 0; span = between (at + 4) a; depth = 8 - left; first = at }
+
+      module _ {l″ : List ℕ} (q : l″ ≡ write l′ (row-words * next) (row-of parent own-range)) where
         pdu-placed : a-put a b l″ ≡ placed (a-pen base parent next) (follow (pdu (8 - left) (flow 8 left)) s (from at)) l
         unfolding placed
         pdu-placed =
             let i : a ≡ end-of (times (be4 s at) (follow (flow 8 left)) s (from (at + 4))) = rw v at (at-is (a-pen base (base + next) (next + 1)) _ l e) in
             let j : b ≡ next + 1 + size (ranges-of (times (be4 s at) (follow (flow 8 left)) s (from (at + 4)))) = rw v at (next-is (a-pen base (base + next) (next + 1)) _ l e) in
-            let r : Range = record { kind = 4; format = 0; span = between (at + 4) a; depth = 8 - left } in
-            let k : l′ ≡ write l (6 * (next + 1)) (rows (base + (next + 1)) (base + next) (ranges-of (times (be4 s at) (follow (flow 8 left)) s (from (at + 4))))) = rw v at (store-is (a-pen base (base + next) (next + 1)) _ l e) in
-            let t : tree r (ranges-of (times (be4 s at) (follow (flow 8 left)) s (from (at + 4)))) bare ≡ ranges-of (follow (pdu (8 - left) (flow 8 left)) s (from at)) =
-            ap (λ (m : ℕ). ranged 4 0 (8 - left) (between (at + 4) m) (ranges-of (times (be4 s at) (follow (flow 8 left)) s (from (at + 4))))) i ∙ sym (pdu-at .ranges) in
+            let k : l′ ≡ write l (row-words * (next + 1)) (rows (base + (next + 1)) (base + next) (ranges-of (times (be4 s at) (follow (flow 8 left)) s (from (at + 4))))) = rw v at (store-is (a-pen base (base + next) (next + 1)) _ l e) in
+            let t : tree own-range (ranges-of (times (be4 s at) (follow (flow 8 left)) s (from (at + 4)))) bare ≡ ranges-of (follow (pdu (8 - left) (flow 8 left)) s (from at)) =
+            ap (λ (m : ℕ). ranged 4 0 (8 - left) at (between (at + 4) m) (ranges-of (times (be4 s at) (follow (flow 8 left)) s (from (at + 4))))) i ∙ sym (pdu-at .ranges) in
             let x : a ≡ end-of (follow (pdu (8 - left) (flow 8 left)) s (from at)) = i ∙ sym (pdu-at .end) in
             let y : b ≡ next + size (ranges-of (follow (pdu (8 - left) (flow 8 left)) s (from at))) = j ∙ rw pdu-size (omega arith) in
-            let d : l″ ≡ write l (6 * next) (rows (base + next) parent (ranges-of (follow (pdu (8 - left) (flow 8 left)) s (from at)))) =
-            own-last l base parent next r (ranges-of (times (be4 s at) (follow (flow 8 left)) s (from (at + 4)))) k q
-            ∙ ap (λ (x : Forest). write l (6 * next) (rows (base + next) parent x)) t in
+            let d : l″ ≡ write l (row-words * next) (rows (base + next) parent (ranges-of (follow (pdu (8 - left) (flow 8 left)) s (from at)))) =
+            own-last l base parent next own-range (ranges-of (times (be4 s at) (follow (flow 8 left)) s (from (at + 4)))) k q
+            ∙ ap (λ (x : Forest). write l (row-words * next) (rows (base + next) parent x)) t in
             λ h. record { at = x h; next = y h; store = d h }
 
         -- and then its own descriptor
@@ -272,11 +277,11 @@ module _ (left : ℕ) (s l : List ℕ) (at : ℕ) (pen : Pen) (g : Ready s l pen
 
 -- ---- a frame's own descriptor
 pub frame-put : (kind depth : ℕ) (s l : List ℕ) (at : ℕ) (pen : Pen) {n f p : ℕ} {l′ : List ℕ} → n ≡ be4 s (at + 4) → f ≡ be4 s at → p ≡ padded n
-    → l′ ≡ write l (6 * pen .next) (kind ∷ f ∷ (at + 8) ∷ n ∷ pen .parent ∷ depth ∷ []) → a-put (at + 8 + p) (pen .next + 1) l′ ≡ framed-at kind depth s at pen l
+    → l′ ≡ write l (row-words * pen .next) (row-of (pen .parent) (record { kind = kind; format = f; span = record { start = at + 8; count = n }; depth = depth; first = at })) → a-put (at + 8 + p) (pen .next + 1) l′ ≡ framed-at kind depth s at pen l
 unfolding framed-at
 frame-put kind depth s l at pen {n} {f} {p} {l′} v u z q =
     let x : at + 8 + p ≡ at + 8 + padded (be4 s (at + 4)) = ap (λ (m : ℕ). at + 8 + m) (z ∙ ap padded v) in
-    let y : l′ ≡ write l (6 * pen .next) (kind ∷ be4 s at ∷ (at + 8) ∷ be4 s (at + 4) ∷ pen .parent ∷ depth ∷ []) = rw (v, u) at q in
+    let y : l′ ≡ write l (row-words * pen .next) (row-of (pen .parent) (frame-range kind depth s at)) = rw (v, u) at q in
     λ h. record { at = x h; next = pen .next + 1; store = y h }
 
 -- ---- a frame: its format word, its opaque, and what that holds
@@ -310,7 +315,7 @@ module _ (kind depth : ℕ) (body : ℕ → Script) (s l : List ℕ) (at : ℕ) 
     unfolding framed-at
     own-next = ap (λ (x : Put). x .next) e
 
-    own-store : l′ ≡ write l (6 * pen .next) (kind ∷ be4 s at ∷ (at + 8) ∷ be4 s (at + 4) ∷ pen .parent ∷ d ∷ [])
+    own-store : l′ ≡ write l (row-words * pen .next) (row-of (pen .parent) (frame-range kind d s at))
     unfolding framed-at
     own-store = ap (λ (x : Put). x .store) e
 
@@ -330,16 +335,16 @@ module _ (kind depth : ℕ) (body : ℕ → Script) (s l : List ℕ) (at : ℕ) 
           → a-put a m l″ ≡ placed pen (follow (framed kind depth body) s (from at)) l
       unfolding placed fills
       frame-placed {m} {l″} i j =
-          let r : Range = record { kind = kind; format = be4 s at; span = record { start = at + 8; count = be4 s (at + 4) }; depth = depth } in
+          let r : Range = frame-range kind depth s at in
           let o : Forest = ranges-of (follow (body (be4 s at)) s (from (at + 8))) in
-          let y : l′ ≡ write l (6 * pen .next) (kind ∷ be4 s at ∷ (at + 8) ∷ be4 s (at + 4) ∷ pen .parent ∷ depth ∷ []) = rw i at own-store in
-          let z : l″ ≡ write l′ (6 * (pen .next + 1)) (rows (pen .base + (pen .next + 1)) (me pen) o) = rw (u, own-next) at (ap (λ (x : Filled). x .store) j) in
+          let y : l′ ≡ write l (row-words * pen .next) (row-of (pen .parent) (frame-range kind depth s at)) = rw i at own-store in
+          let z : l″ ≡ write l′ (row-words * (pen .next + 1)) (rows (pen .base + (pen .next + 1)) (me pen) o) = rw (u, own-next) at (ap (λ (x : Filled). x .store) j) in
           let n : m ≡ pen .next + 1 + size o = rw (u, own-next) at (ap (λ (x : Filled). x .next) j) in
           let x : a ≡ end-of (follow (framed kind depth body) s (from at)) = own-at ∙ sym (frame .end) in
           let t : m ≡ pen .next + size (ranges-of (follow (framed kind depth body) s (from at))) = n ∙ rw frame-size (omega arith) in
-          let w : l″ ≡ write l (6 * pen .next) (rows (pen .base + pen .next) (pen .parent) (ranges-of (follow (framed kind depth body) s (from at)))) =
+          let w : l″ ≡ write l (row-words * pen .next) (rows (pen .base + pen .next) (pen .parent) (ranges-of (follow (framed kind depth body) s (from at)))) =
           own-first l (pen .base) (pen .parent) (pen .next) r o y z
-          ∙ ap (λ (x : Forest). write l (6 * pen .next) (rows (pen .base + pen .next) (pen .parent) x)) (sym (frame .ranges)) in
+          ∙ ap (λ (x : Forest). write l (row-words * pen .next) (rows (pen .base + pen .next) (pen .parent) x)) (sym (frame .ranges)) in
           λ h. record { at = x h; next = t h; store = w h }
 
 -- where nothing is found nothing is written

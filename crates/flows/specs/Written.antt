@@ -1,13 +1,14 @@
 -- What the second pass leaves in the store, in terms of the reading. Assumes nothing.
 use Prim.Native.Nat.{ℕ, _+_, _*_, _/_, _%_, _≤_}
-use mathlib.Core.List.{List, [], _∷_}
+use mathlib.Core.List.{List}
 use lib.ListN.{length}
 use Rattle.reading.specs.Bytes.{be4, padded}
-use Rattle.reading.specs.Script.{Found}
+use Rattle.reading.specs.Script.{Range, Found}
 use Rattle.reading.specs.Cursor.{Out}
-use Rattle.reading.specs.Answer.{size, rows}
+use Rattle.reading.specs.Answer.{row-words, size, row-of, rows}
 use Rattle.reading.proofs.Places.{Accepted, ranges-of, end-of}
 use Rattle.reading.proofs.Stored.{write}
+use Rattle.flows.specs.declared.put.Descriptor.{Descriptor}
 use Rattle.flows.specs.declared.put.Pen.{Pen}
 use Rattle.flows.specs.declared.put.Written.{Written}
 
@@ -15,8 +16,12 @@ use Rattle.flows.specs.declared.put.Written.{Written}
 pub record Ready (s l : List ℕ) (pen : Pen) (o : Out Found) : Type 0 where
   pub short : length s ≤ 16777216
   pub good : Accepted o
-  pub room : 6 * (pen .next + size (ranges-of o)) ≤ length l
+  pub room : row-words * (pen .next + size (ranges-of o)) ≤ length l
   pub few : pen .base + pen .next + size (ranges-of o) ≤ 16777216
+
+-- the range that a descriptor is of
+abbrev pub range-of : Descriptor → Range
+range-of d = record { kind = d .kind; format = d .format .0; span = record { start = d .start; count = d .length }; depth = d .depth; first = d .first }
 
 -- where a pass has come to, and the store that it leaves
 pub record Put : Type 0 where
@@ -38,7 +43,7 @@ unfoldable pub placed : Pen → Out Found → List ℕ → Put
 placed pen o l = record {
   at = end-of o;
   next = pen .next + size (ranges-of o);
-  store = write l (6 * pen .next) (rows (pen .base + pen .next) (pen .parent) (ranges-of o));
+  store = write l (row-words * pen .next) (rows (pen .base + pen .next) (pen .parent) (ranges-of o));
 }
 
 -- the same without the position
@@ -59,12 +64,16 @@ fills pen o l = record { next = placed pen o l .next; store = placed pen o l .st
 pub record Framed-here (s l : List ℕ) (at : ℕ) (pen : Pen) : Type 0 where
   pub fits : at + 8 + padded (be4 s (at + 4)) ≤ length s
   pub short : length s ≤ 16777216
-  pub room : 6 * pen .next + 6 ≤ length l
+  pub room : row-words * pen .next + row-words ≤ length l
   pub few : pen .next + 1 ≤ 16777216
+
+-- the range of a frame at a place: its first byte is that of its format word
+abbrev pub frame-range : (kind depth : ℕ) (s : List ℕ) (at : ℕ) → Range
+frame-range kind depth s at = record { kind = kind; format = be4 s at; span = record { start = at + 8; count = be4 s (at + 4) }; depth = depth; first = at }
 
 unfoldable pub framed-at : (kind depth : ℕ) (s : List ℕ) (at : ℕ) → Pen → List ℕ → Put
 framed-at kind depth s at pen l = record {
   at = at + 8 + padded (be4 s (at + 4));
   next = pen .next + 1;
-  store = write l (6 * pen .next) (kind ∷ be4 s at ∷ (at + 8) ∷ be4 s (at + 4) ∷ pen .parent ∷ depth ∷ []);
+  store = write l (row-words * pen .next) (row-of (pen .parent) (frame-range kind depth s at));
 }

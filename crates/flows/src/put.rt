@@ -1,13 +1,12 @@
 // Flow records as descriptors: a second pass over what the first has accepted, which goes by frames alone.
 ghost use mathlib.Core.Path.{_≡_};
-ghost use mathlib.Core.List.{[], _∷_};
 ghost use Prim.Native.Nat.{_+_, _-_, _*_, _≤_};
 ghost use lib.ListN.{length};
 ghost use Rattle.reading.specs.Cursor.{times, follow};
 ghost use Rattle.reading.specs.Layout.{opened, flows, flow, pdu};
-ghost use Rattle.reading.specs.Answer.{from};
+ghost use Rattle.reading.specs.Answer.{row-words, row-of, from};
 ghost use Rattle.reading.proofs.Stored.{write};
-ghost use Rattle.flows.specs.Written.{Ready, Framed-here, a-pen, written, packed, framed-at, placed, filled, fills};
+ghost use Rattle.flows.specs.Written.{Ready, range-of, Framed-here, a-pen, written, packed, framed-at, placed, filled, fills};
 ghost use Rattle.flows.specs.Passing.{Flat-of};
 use numbers::DataFormat;
 use xdr::load;
@@ -25,7 +24,7 @@ pub struct Written {
     pub next: usize,
 }
 
-// The six words of a descriptor.
+// A descriptor, word for word.
 pub struct Descriptor {
     pub kind: u32,
     pub format: DataFormat,
@@ -33,20 +32,25 @@ pub struct Descriptor {
     pub length: u32,
     pub parent: u32,
     pub depth: u32,
+    pub first: u32,
 }
+
+// The words of a descriptor in the store.
+pub const DESCRIPTOR_WORDS: usize = 7;
 
 // The one place that stores.
 pub fn put(store: &mut [u32], i: usize, d: Descriptor)
-    requires { ⌜ 6 * i + 6 ≤ length (now store) ⌝ }
-    ensures { λ r. ⌜ now (store .exit) ≡ write (now (store .entry)) (6 * i) (d .kind ∷ d .format .0 ∷ d .start ∷ d .length ∷ d .parent ∷ d .depth ∷ []) ⌝ }
+    requires { ⌜ row-words * i + row-words ≤ length (now store) ⌝ }
+    ensures { λ r. ⌜ now (store .exit) ≡ write (now (store .entry)) (row-words * i) (row-of (d .parent) (range-of d)) ⌝ }
 {
-    let at = 6 * i;
+    let at = DESCRIPTOR_WORDS * i;
     store[at] = d.kind;
     store[at + 1] = d.format.0;
     store[at + 2] = d.start;
     store[at + 3] = d.length;
     store[at + 4] = d.parent;
     store[at + 5] = d.depth;
+    store[at + 6] = d.first;
 }
 
 // The descriptor of the frame at `at`; past the frame.
@@ -57,6 +61,8 @@ pub fn put_frame(s: &[u8], at: usize, kind: u32, depth: u32, store: &mut [u32], 
     let format = load::be32(s, at);
     let length = load::be32(s, at + 4);
     let start = at + 8;
+    let count = length as usize;
+    let padded = load::padded(count);
     let i = pen.next;
     put(
         store,
@@ -68,10 +74,11 @@ pub fn put_frame(s: &[u8], at: usize, kind: u32, depth: u32, store: &mut [u32], 
             length: length,
             parent: pen.parent,
             depth: depth,
+            first: at as u32,
         },
     );
     Written {
-        at: start + load::padded(length as usize),
+        at: start + padded,
         next: i + 1,
     }
 }
@@ -229,6 +236,7 @@ fn put_pdus(
                 length: (end - start) as u32,
                 parent: parent,
                 depth: (8 - left) as u32,
+                first: cur as u32,
             },
         );
         cur = end;

@@ -6,7 +6,7 @@ use lib.ListN.{getD}
 use Rattle.reading.specs.Answer.{Fields, read}
 use Rattle.flows.specs.declared.put.Descriptor.{Descriptor}
 
--- a descriptor has these six words
+-- a descriptor has these words
 pub record Has-words (w : List ℕ) (d : Descriptor) : Type 0 where
   pub kind : d .kind ≡ getD w 0 0
   pub format : d .format .0 ≡ getD w 1 0
@@ -14,6 +14,7 @@ pub record Has-words (w : List ℕ) (d : Descriptor) : Type 0 where
   pub extent : d .length ≡ getD w 3 0
   pub parent : d .parent ≡ getD w 4 0
   pub depth : d .depth ≡ getD w 5 0
+  pub first : d .first ≡ getD w 6 0
 
 -- the fields of this kind and format, of a descriptor's words
 abbrev pub read-at : (kind format : ℕ) → List ℕ → List ℕ → Fields

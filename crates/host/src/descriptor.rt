@@ -1,9 +1,12 @@
-// A descriptor as a C host hands it over: a pointer to its six words in the store.
+// A descriptor as a C host hands it over: a pointer to its words in the store.
 ghost use Rattle.host.specs.Shown.{Has-words};
+use flows::put::DESCRIPTOR_WORDS;
 use flows::put::Descriptor;
 use numbers::DataFormat;
 
-pub fn descriptor(w: &[u32; 6]) -> Descriptor
+pub type Words = [u32; DESCRIPTOR_WORDS];
+
+pub fn descriptor(w: &Words) -> Descriptor
     ensures { λ r. ⌜ Has-words (now (w .entry)) r ⌝ }
 {
     Descriptor {
@@ -13,5 +16,6 @@ pub fn descriptor(w: &[u32; 6]) -> Descriptor
         length: w[3],
         parent: w[4],
         depth: w[5],
+        first: w[6],
     }
 }

@@ -5,6 +5,7 @@ ghost use Rattle.datagram.specs.Shown.{header-fields};
 ghost use Rattle.samples.specs.Shown.{flow-sample, counters-sample, flow-sample-expanded, counters-sample-expanded, discarded-packet};
 ghost use Rattle.flows.specs.Shown.{sampled-header, sampled-ethernet, sampled-ipv4, sampled-ipv6, extended-switch, extended-router, extended-gateway, extended-user, extended-url, extended-nat, extended-vlan-tunnel, extended-mpls, extended-mpls-tunnel, extended-mpls-vc, extended-mpls-fec, extended-mpls-lvp-fec, extended-80211-payload, extended-80211-rx, extended-80211-tx, extended-80211-aggregation};
 ghost use Rattle.host.specs.Shown.{read-at};
+use crate::descriptor::Words;
 use crate::descriptor::descriptor;
 use datagram::header::Header;
 use fields::extended;
@@ -40,28 +41,28 @@ use samples::fields::FlowSample;
 use samples::fields::FlowSampleExpanded;
 
 #[no_mangle]
-pub extern "C" fn latchplume_read_header(s: &[u8], d: &[u32; 6]) -> Header
+pub extern "C" fn latchplume_read_header(s: &[u8], d: &Words) -> Header
     ensures { λ r. ⌜ answer-of (r .outcome) (header-fields r) ≡ read-at 0 0 (now (s .entry)) (now (d .entry)) ⌝ }
 {
     headers::header(s, descriptor(d))
 }
 
 #[no_mangle]
-pub extern "C" fn latchplume_read_flow_sample(s: &[u8], d: &[u32; 6]) -> FlowSample
+pub extern "C" fn latchplume_read_flow_sample(s: &[u8], d: &Words) -> FlowSample
     ensures { λ r. ⌜ answer-of (r .outcome) (flow-sample r) ≡ read-at 1 1 (now (s .entry)) (now (d .entry)) ⌝ }
 {
     sample::flow_sample(s, descriptor(d))
 }
 
 #[no_mangle]
-pub extern "C" fn latchplume_read_counters_sample(s: &[u8], d: &[u32; 6]) -> CountersSample
+pub extern "C" fn latchplume_read_counters_sample(s: &[u8], d: &Words) -> CountersSample
     ensures { λ r. ⌜ answer-of (r .outcome) (counters-sample r) ≡ read-at 1 2 (now (s .entry)) (now (d .entry)) ⌝ }
 {
     sample::counters_sample(s, descriptor(d))
 }
 
 #[no_mangle]
-pub extern "C" fn latchplume_read_flow_sample_expanded(s: &[u8], d: &[u32; 6]) -> FlowSampleExpanded
+pub extern "C" fn latchplume_read_flow_sample_expanded(s: &[u8], d: &Words) -> FlowSampleExpanded
     ensures { λ r. ⌜ answer-of (r .outcome) (flow-sample-expanded r) ≡ read-at 1 3 (now (s .entry)) (now (d .entry)) ⌝ }
 {
     sample::flow_sample_expanded(s, descriptor(d))
@@ -70,7 +71,7 @@ pub extern "C" fn latchplume_read_flow_sample_expanded(s: &[u8], d: &[u32; 6]) -
 #[no_mangle]
 pub extern "C" fn latchplume_read_counters_sample_expanded(
     s: &[u8],
-    d: &[u32; 6],
+    d: &Words,
 ) -> CountersSampleExpanded
     ensures { λ r. ⌜ answer-of (r .outcome) (counters-sample-expanded r) ≡ read-at 1 4 (now (s .entry)) (now (d .entry)) ⌝ }
 {
@@ -78,122 +79,119 @@ pub extern "C" fn latchplume_read_counters_sample_expanded(
 }
 
 #[no_mangle]
-pub extern "C" fn latchplume_read_discarded_packet(s: &[u8], d: &[u32; 6]) -> DiscardedPacket
+pub extern "C" fn latchplume_read_discarded_packet(s: &[u8], d: &Words) -> DiscardedPacket
     ensures { λ r. ⌜ answer-of (r .outcome) (discarded-packet r) ≡ read-at 1 5 (now (s .entry)) (now (d .entry)) ⌝ }
 {
     sample::discarded_packet(s, descriptor(d))
 }
 
 #[no_mangle]
-pub extern "C" fn latchplume_read_sampled_header(s: &[u8], d: &[u32; 6]) -> SampledHeader
+pub extern "C" fn latchplume_read_sampled_header(s: &[u8], d: &Words) -> SampledHeader
     ensures { λ r. ⌜ answer-of (r .outcome) (sampled-header r) ≡ read-at 2 1 (now (s .entry)) (now (d .entry)) ⌝ }
 {
     sampled::sampled_header(s, descriptor(d))
 }
 
 #[no_mangle]
-pub extern "C" fn latchplume_read_sampled_ethernet(s: &[u8], d: &[u32; 6]) -> SampledEthernet
+pub extern "C" fn latchplume_read_sampled_ethernet(s: &[u8], d: &Words) -> SampledEthernet
     ensures { λ r. ⌜ answer-of (r .outcome) (sampled-ethernet r) ≡ read-at 2 2 (now (s .entry)) (now (d .entry)) ⌝ }
 {
     sampled::sampled_ethernet(s, descriptor(d))
 }
 
 #[no_mangle]
-pub extern "C" fn latchplume_read_sampled_ipv4(s: &[u8], d: &[u32; 6]) -> SampledIpv4
+pub extern "C" fn latchplume_read_sampled_ipv4(s: &[u8], d: &Words) -> SampledIpv4
     ensures { λ r. ⌜ answer-of (r .outcome) (sampled-ipv4 r) ≡ read-at 2 3 (now (s .entry)) (now (d .entry)) ⌝ }
 {
     sampled::sampled_ipv4(s, descriptor(d))
 }
 
 #[no_mangle]
-pub extern "C" fn latchplume_read_sampled_ipv6(s: &[u8], d: &[u32; 6]) -> SampledIpv6
+pub extern "C" fn latchplume_read_sampled_ipv6(s: &[u8], d: &Words) -> SampledIpv6
     ensures { λ r. ⌜ answer-of (r .outcome) (sampled-ipv6 r) ≡ read-at 2 4 (now (s .entry)) (now (d .entry)) ⌝ }
 {
     sampled::sampled_ipv6(s, descriptor(d))
 }
 
 #[no_mangle]
-pub extern "C" fn latchplume_read_extended_switch(s: &[u8], d: &[u32; 6]) -> ExtendedSwitch
+pub extern "C" fn latchplume_read_extended_switch(s: &[u8], d: &Words) -> ExtendedSwitch
     ensures { λ r. ⌜ answer-of (r .outcome) (extended-switch r) ≡ read-at 2 1001 (now (s .entry)) (now (d .entry)) ⌝ }
 {
     extended::extended_switch(s, descriptor(d))
 }
 
 #[no_mangle]
-pub extern "C" fn latchplume_read_extended_router(s: &[u8], d: &[u32; 6]) -> ExtendedRouter
+pub extern "C" fn latchplume_read_extended_router(s: &[u8], d: &Words) -> ExtendedRouter
     ensures { λ r. ⌜ answer-of (r .outcome) (extended-router r) ≡ read-at 2 1002 (now (s .entry)) (now (d .entry)) ⌝ }
 {
     extended::extended_router(s, descriptor(d))
 }
 
 #[no_mangle]
-pub extern "C" fn latchplume_read_extended_gateway(s: &[u8], d: &[u32; 6]) -> ExtendedGateway
+pub extern "C" fn latchplume_read_extended_gateway(s: &[u8], d: &Words) -> ExtendedGateway
     ensures { λ r. ⌜ answer-of (r .outcome) (extended-gateway r) ≡ read-at 2 1003 (now (s .entry)) (now (d .entry)) ⌝ }
 {
     extended::extended_gateway(s, descriptor(d))
 }
 
 #[no_mangle]
-pub extern "C" fn latchplume_read_extended_user(s: &[u8], d: &[u32; 6]) -> ExtendedUser
+pub extern "C" fn latchplume_read_extended_user(s: &[u8], d: &Words) -> ExtendedUser
     ensures { λ r. ⌜ answer-of (r .outcome) (extended-user r) ≡ read-at 2 1004 (now (s .entry)) (now (d .entry)) ⌝ }
 {
     extended::extended_user(s, descriptor(d))
 }
 
 #[no_mangle]
-pub extern "C" fn latchplume_read_extended_url(s: &[u8], d: &[u32; 6]) -> ExtendedUrl
+pub extern "C" fn latchplume_read_extended_url(s: &[u8], d: &Words) -> ExtendedUrl
     ensures { λ r. ⌜ answer-of (r .outcome) (extended-url r) ≡ read-at 2 1005 (now (s .entry)) (now (d .entry)) ⌝ }
 {
     extended::extended_url(s, descriptor(d))
 }
 
 #[no_mangle]
-pub extern "C" fn latchplume_read_extended_nat(s: &[u8], d: &[u32; 6]) -> ExtendedNat
+pub extern "C" fn latchplume_read_extended_nat(s: &[u8], d: &Words) -> ExtendedNat
     ensures { λ r. ⌜ answer-of (r .outcome) (extended-nat r) ≡ read-at 2 1007 (now (s .entry)) (now (d .entry)) ⌝ }
 {
     extended::extended_nat(s, descriptor(d))
 }
 
 #[no_mangle]
-pub extern "C" fn latchplume_read_extended_vlan_tunnel(s: &[u8], d: &[u32; 6]) -> ExtendedVlanTunnel
+pub extern "C" fn latchplume_read_extended_vlan_tunnel(s: &[u8], d: &Words) -> ExtendedVlanTunnel
     ensures { λ r. ⌜ answer-of (r .outcome) (extended-vlan-tunnel r) ≡ read-at 2 1012 (now (s .entry)) (now (d .entry)) ⌝ }
 {
     extended::extended_vlan_tunnel(s, descriptor(d))
 }
 
 #[no_mangle]
-pub extern "C" fn latchplume_read_extended_mpls(s: &[u8], d: &[u32; 6]) -> ExtendedMpls
+pub extern "C" fn latchplume_read_extended_mpls(s: &[u8], d: &Words) -> ExtendedMpls
     ensures { λ r. ⌜ answer-of (r .outcome) (extended-mpls r) ≡ read-at 2 1006 (now (s .entry)) (now (d .entry)) ⌝ }
 {
     mpls::extended_mpls(s, descriptor(d))
 }
 
 #[no_mangle]
-pub extern "C" fn latchplume_read_extended_mpls_tunnel(s: &[u8], d: &[u32; 6]) -> ExtendedMplsTunnel
+pub extern "C" fn latchplume_read_extended_mpls_tunnel(s: &[u8], d: &Words) -> ExtendedMplsTunnel
     ensures { λ r. ⌜ answer-of (r .outcome) (extended-mpls-tunnel r) ≡ read-at 2 1008 (now (s .entry)) (now (d .entry)) ⌝ }
 {
     mpls::extended_mpls_tunnel(s, descriptor(d))
 }
 
 #[no_mangle]
-pub extern "C" fn latchplume_read_extended_mpls_vc(s: &[u8], d: &[u32; 6]) -> ExtendedMplsVc
+pub extern "C" fn latchplume_read_extended_mpls_vc(s: &[u8], d: &Words) -> ExtendedMplsVc
     ensures { λ r. ⌜ answer-of (r .outcome) (extended-mpls-vc r) ≡ read-at 2 1009 (now (s .entry)) (now (d .entry)) ⌝ }
 {
     mpls::extended_mpls_vc(s, descriptor(d))
 }
 
 #[no_mangle]
-pub extern "C" fn latchplume_read_extended_mpls_fec(s: &[u8], d: &[u32; 6]) -> ExtendedMplsFec
+pub extern "C" fn latchplume_read_extended_mpls_fec(s: &[u8], d: &Words) -> ExtendedMplsFec
     ensures { λ r. ⌜ answer-of (r .outcome) (extended-mpls-fec r) ≡ read-at 2 1010 (now (s .entry)) (now (d .entry)) ⌝ }
 {
     mpls::extended_mpls_fec(s, descriptor(d))
 }
 
 #[no_mangle]
-pub extern "C" fn latchplume_read_extended_mpls_lvp_fec(
-    s: &[u8],
-    d: &[u32; 6],
-) -> ExtendedMplsLvpFec
+pub extern "C" fn latchplume_read_extended_mpls_lvp_fec(s: &[u8], d: &Words) -> ExtendedMplsLvpFec
     ensures { λ r. ⌜ answer-of (r .outcome) (extended-mpls-lvp-fec r) ≡ read-at 2 1011 (now (s .entry)) (now (d .entry)) ⌝ }
 {
     mpls::extended_mpls_lvp_fec(s, descriptor(d))
@@ -202,7 +200,7 @@ pub extern "C" fn latchplume_read_extended_mpls_lvp_fec(
 #[no_mangle]
 pub extern "C" fn latchplume_read_extended_80211_payload(
     s: &[u8],
-    d: &[u32; 6],
+    d: &Words,
 ) -> Extended80211Payload
     ensures { λ r. ⌜ answer-of (r .outcome) (extended-80211-payload r) ≡ read-at 2 1013 (now (s .entry)) (now (d .entry)) ⌝ }
 {
@@ -210,14 +208,14 @@ pub extern "C" fn latchplume_read_extended_80211_payload(
 }
 
 #[no_mangle]
-pub extern "C" fn latchplume_read_extended_80211_rx(s: &[u8], d: &[u32; 6]) -> Extended80211Rx
+pub extern "C" fn latchplume_read_extended_80211_rx(s: &[u8], d: &Words) -> Extended80211Rx
     ensures { λ r. ⌜ answer-of (r .outcome) (extended-80211-rx r) ≡ read-at 2 1014 (now (s .entry)) (now (d .entry)) ⌝ }
 {
     wireless::extended_80211_rx(s, descriptor(d))
 }
 
 #[no_mangle]
-pub extern "C" fn latchplume_read_extended_80211_tx(s: &[u8], d: &[u32; 6]) -> Extended80211Tx
+pub extern "C" fn latchplume_read_extended_80211_tx(s: &[u8], d: &Words) -> Extended80211Tx
     ensures { λ r. ⌜ answer-of (r .outcome) (extended-80211-tx r) ≡ read-at 2 1015 (now (s .entry)) (now (d .entry)) ⌝ }
 {
     wireless::extended_80211_tx(s, descriptor(d))
@@ -226,7 +224,7 @@ pub extern "C" fn latchplume_read_extended_80211_tx(s: &[u8], d: &[u32; 6]) -> E
 #[no_mangle]
 pub extern "C" fn latchplume_read_extended_80211_aggregation(
     s: &[u8],
-    d: &[u32; 6],
+    d: &Words,
 ) -> Extended80211Aggregation
     ensures { λ r. ⌜ answer-of (r .outcome) (extended-80211-aggregation r) ≡ read-at 2 1016 (now (s .entry)) (now (d .entry)) ⌝ }
 {

@@ -2,7 +2,9 @@
 ghost use Prim.Native.Nat.{_+_, _*_, _≤_};
 ghost use mathlib.Core.Path.{_≡_};
 ghost use lib.ListN.{length};
+ghost use Rattle.reading.specs.Answer.{row-words};
 use datagram::decode::Answer;
+use flows::put::DESCRIPTOR_WORDS;
 
 fn word(name: &[u8], w: u32) {
     out::number(name, w as u64);
@@ -10,7 +12,7 @@ fn word(name: &[u8], w: u32) {
 
 // The descriptor whose first word is at `at`.
 fn descriptor(store: &[u32], at: usize)
-    requires { ⌜ at + 6 ≤ length (now store) ⌝ }
+    requires { ⌜ at + row-words ≤ length (now store) ⌝ }
 {
     word(b"kind=", store[at]);
     word(b" format=", store[at + 1]);
@@ -18,23 +20,24 @@ fn descriptor(store: &[u32], at: usize)
     word(b" length=", store[at + 3]);
     word(b" parent=", store[at + 4]);
     word(b" depth=", store[at + 5]);
+    word(b" first=", store[at + 6]);
     out::text(b"\n");
 }
 
 // The first n descriptors.
 fn descriptors(store: &[u32], n: usize)
-    requires { ⌜ 6 * n ≤ length (now store) ⌝ }
+    requires { ⌜ row-words * n ≤ length (now store) ⌝ }
 {
     let mut i = 0;
     while i < n {
-        descriptor(store, 6 * i);
+        descriptor(store, DESCRIPTOR_WORDS * i);
         i = i + 1;
     }
 }
 
 // An answer, and the descriptors where there are any.
 pub fn list(a: Answer, store: &[u32])
-    requires { ⌜ (a .code ≡ 0 → 6 * a .needed ≤ length (now store)) ⌝ }
+    requires { ⌜ (a .code ≡ 0 → row-words * a .needed ≤ length (now store)) ⌝ }
 {
     let code = a.code;
     let n = a.needed;

@@ -1,6 +1,12 @@
 // Standard input as a run of datagrams, up to 65,536 bytes: the answer, and the descriptors.
 use datagram::run::decode_run;
+use flows::put::DESCRIPTOR_WORDS;
 use libc::STDIN_FILENO;
+
+// The longest input, and the words of a store that has room for any of that length: a descriptor owns four bytes.
+const MOST: usize = 65536;
+
+const STORE_WORDS: usize = MOST / 4 * DESCRIPTOR_WORDS;
 
 fn list(s: &[u8], store: &mut [u32]) {
     let answer = decode_run(s, &mut *store);
@@ -8,12 +14,12 @@ fn list(s: &[u8], store: &mut [u32]) {
 }
 
 fn main() {
-    let mut buffer = [0u8; 65537];
+    let mut buffer = [0u8; MOST + 1];
     let n = io::read_full(STDIN_FILENO, &mut buffer);
-    if 65536 < n {
+    if MOST < n {
         out::text(b"input=toolong\n");
         return;
     }
-    let mut store = [0u32; 98304];
+    let mut store = [0u32; STORE_WORDS];
     list(&buffer[..n], &mut store);
 }

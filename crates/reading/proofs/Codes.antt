@@ -69,12 +69,12 @@ coded-flows h =
     (flat refl (flat refl (flat refl (flat refl (counts refl h none)))))))))))))))))))
 
 coded-framed : {kind depth : ℕ} {body : ℕ → Script} → ((f : ℕ) → Coded (body f)) → Coded (framed kind depth body)
-coded-framed h = reads refl (λ f. opens (h (num f)) (λ x a. gives))
+coded-framed h = stands (λ o. reads refl (λ f. opens (h (num f)) (λ x a. gives)))
 
 pub coded-flow : (limit left : ℕ) → Coded (flow limit left)
 unfolding flow
 coded-flow limit zero = refuses {c = 8} (omega arith, omega arith)
-coded-flow limit (suc left) = coded-framed (coded-opened (coded-flows (reads refl (λ n. stands (λ a. repeats (coded-flow limit left) (λ r. stands (λ e. gives)))))))
+coded-flow limit (suc left) = coded-framed (coded-opened (coded-flows (stands (λ o. reads refl (λ n. stands (λ a. repeats (coded-flow limit left) (λ r. stands (λ e. gives))))))))
 
 coded-samples : (limit : ℕ) → Rows (samples limit)
 unfolding samples

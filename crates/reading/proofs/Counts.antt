@@ -120,7 +120,7 @@ module _ (s : List ℕ) (p : Place) where
 
 module _ (kind depth : ℕ) (body : ℕ → Script) (s : List ℕ) (p : Place) (k : ℕ) where
   framed-is : follow (framed kind depth body) s p
-      ≡ then (frame-at s p) (λ g e. then (inside (g .span) (follow (body (g .format))) s e) (λ a i. got (only (ranged kind (g .format) depth (g .span) (a .ranges))) i))
+      ≡ then (frame-at s p) (λ g e. then (inside (g .span) (follow (body (g .format))) s e) (λ a i. got (only (ranged kind (g .format) depth (p .at) (g .span) (a .ranges))) i))
   unfolding follow frame-at
   framed-is =
       then-same (read-item word s p) _ _ (λ f q. sym (then-then (read-opaque s q) _ _))
@@ -136,7 +136,7 @@ module _ (kind depth : ℕ) (body : ℕ → Script) (s : List ℕ) (p : Place) (
   frame-held {f} {x} {r} e = rw (framed-is, ← e) (go (follow (body f) (held-to x s) (place (x .start) (r .steps))))
     where
       go : (o : Out Found)
-          → counted k (then (then o (λ a i. got a (record { at = r .at; steps = i .steps }))) (λ a i. got (only (ranged kind f depth x (a .ranges))) i))
+          → counted k (then (then o (λ a i. got a (record { at = r .at; steps = i .steps }))) (λ a i. got (only (ranged kind f depth (p .at) x (a .ranges))) i))
           ≡ resumed (r .at) (counted (k + 1) o)
       go (got a i) =
           let z : k + (1 + size (a .ranges) + 0) ≡ k + 1 + size (a .ranges) = omega arith in
@@ -153,7 +153,7 @@ module _ (depth : ℕ) (body : Script) (s : List ℕ) (p : Place) (k : ℕ) wher
   unfolding follow counted size
   pdu-held {n} {q} e = rw (← e) (go (times n (follow body) s q))
     where
-      go : (o : Out Found) → counted k (then o (λ r i. got (only (ranged 4 0 depth (between (q .at) (i .at)) (r .ranges))) i)) ≡ counted (k + 1) o
+      go : (o : Out Found) → counted k (then o (λ r i. got (only (ranged 4 0 depth (p .at) (between (q .at) (i .at)) (r .ranges))) i)) ≡ counted (k + 1) o
       go (got r i) =
           let z : k + (1 + size (r .ranges) + 0) ≡ k + 1 + size (r .ranges) = omega arith in
           ap (λ (m : ℕ). got m i) z

@@ -3,7 +3,7 @@
 use Prim.Native.Nat.{ℕ, zero, suc, _+_, _*_, _-_, _≤_, _<_}
 use mathlib.Core.Path.{_≡_, refl, sym, ap, _∙_}
 use mathlib.Core.Bool.{Bool, true, false, cond}
-use mathlib.Core.List.{List, _∷_, _++_, append-assoc}
+use mathlib.Core.List.{List, _++_, append-assoc}
 use native.Mathlib.Omega.{arith}
 use borrow.Author.Tests.{le-leb, eq-eqb, leb-true, leb-false}
 use lib.Dec.{leb}
@@ -12,7 +12,7 @@ use lib.Seq.{getD-append-add}
 use Rattle.reading.specs.Script.{Value, Range, Forest, bare, tree, Found}
 use Rattle.reading.specs.Cursor.{Place, Out, got, stop, follow}
 use Rattle.reading.specs.Layout.{between, datagram}
-use Rattle.reading.specs.Answer.{limit, limited, from, nobody, size, rows, room, Header, header-of, no-header, Answer, refused, stored, one, datagrams, run, layout-of, Fields, answered, read}
+use Rattle.reading.specs.Answer.{limit, limited, from, nobody, row-words, size, row-of, rows, room, Header, header-of, no-header, Answer, refused, stored, one, datagrams, run, layout-of, Fields, answered, read}
 use Rattle.reading.proofs.Fields.{reads-shown}
 use Rattle.reading.proofs.Items.{either}
 use Rattle.reading.proofs.Codes.{datagram-coded, run-coded}
@@ -62,10 +62,10 @@ module _ (s : List ℕ) (short : length s ≤ limit) where
 
     -- the datagram's own: the values of its header
     pub header-reading-accepts : follow datagram s (from 0) ≡ got a q → (p : Place)
-        × (read-range s (record { kind = 0; format = 0; span = between 0 (q .at); depth = 0 }) ≡ gave (a .values) p)
+        × (read-range s (record { kind = 0; format = 0; span = between 0 (q .at); depth = 0; first = 0 }) ≡ gave (a .values) p)
     header-reading-accepts e =
         let d = datagram-of s (from 0) (omega arith) e in
-        (d .holds .next, fields-read s (record { kind = 0; format = 0; span = between 0 (q .at); depth = 0 }) short (d .holds .fields))
+        (d .holds .next, fields-read s (record { kind = 0; format = 0; span = between 0 (q .at); depth = 0; first = 0 }) short (d .holds .fields))
 
     -- a range anywhere in a run
     pub run-reading-accepts : (fuel : ℕ) → datagrams fuel s (from 0) ≡ got a q → {r : Range} {inner : Forest}
@@ -76,21 +76,21 @@ module _ (s : List ℕ) (short : length s ≤ limit) where
 
 -- a word of the descriptor with this index, and that descriptor, but for its parent
 abbrev pub entry : (store : List ℕ) → (index word : ℕ) → ℕ
-entry w i k = getD w (6 * i + k) 0
+entry w i k = getD w (row-words * i + k) 0
 
 unfoldable pub descriptor : (store : List ℕ) → (index : ℕ) → Range
-descriptor w i = record { kind = entry w i 0; format = entry w i 1; span = record { start = entry w i 2; count = entry w i 3 }; depth = entry w i 5 }
+descriptor w i = record { kind = entry w i 0; format = entry w i 1; span = record { start = entry w i 2; count = entry w i 3 }; depth = entry w i 5; first = entry w i 6 }
 
 -- past the first, and past other descriptors
-pub entry-past-one : (a b c d e f i : ℕ) (l : List ℕ) (k : ℕ) → entry (a ∷ b ∷ c ∷ d ∷ e ∷ f ∷ l) (suc i) k ≡ entry l i k
-entry-past-one a b c d e f i l k = ap (λ (n : ℕ). getD (a ∷ b ∷ c ∷ d ∷ e ∷ f ∷ l) n 0) {x = 6 * suc i + k} {y = suc (suc (suc (suc (suc (suc (6 * i + k))))))} (omega arith)
+pub entry-past-one : (p : ℕ) (r : Range) (i : ℕ) (l : List ℕ) (k : ℕ) → entry (row-of p r ++ l) (suc i) k ≡ entry l i k
+entry-past-one p r i l k = ap (λ (n : ℕ). getD (row-of p r ++ l) n 0) {x = row-words * suc i + k} {y = suc (suc (suc (suc (suc (suc (suc (row-words * i + k)))))))} (omega arith)
 
-pub entry-past : (l m : List ℕ) (n i : ℕ) → length l ≡ 6 * n → n ≤ i → (k : ℕ) → entry (l ++ m) i k ≡ entry m (i - n) k
-entry-past l m n i e h k = ap (λ (j : ℕ). getD (l ++ m) j 0) {x = 6 * i + k} {y = length l + (6 * (i - n) + k)} (omega arith) ∙ getD-append-add l m (6 * (i - n) + k) 0
+pub entry-past : (l m : List ℕ) (n i : ℕ) → length l ≡ row-words * n → n ≤ i → (k : ℕ) → entry (l ++ m) i k ≡ entry m (i - n) k
+entry-past l m n i e h k = ap (λ (j : ℕ). getD (l ++ m) j 0) {x = row-words * i + k} {y = length l + (row-words * (i - n) + k)} (omega arith) ∙ getD-append-add l m (row-words * (i - n) + k) 0
 
 same : (v w : List ℕ) (i j : ℕ) → ((k : ℕ) → entry v i k ≡ entry w j k) → descriptor v i ≡ descriptor w j
 unfolding descriptor
-same v w i j e = λ t. record { kind = e 0 t; format = e 1 t; span = record { start = e 2 t; count = e 3 t }; depth = e 5 t }
+same v w i j e = λ t. record { kind = e 0 t; format = e 1 t; span = record { start = e 2 t; count = e 3 t }; depth = e 5 t; first = e 6 t }
 
 -- each descriptor is a range, whatever stands behind them
 pub stands-in : (f : Forest) (j p i : ℕ) (rest : List ℕ) → i < size f → (inner : Forest) × Among (descriptor (rows j p f ++ rest) i) inner f
@@ -102,7 +102,7 @@ stands-in (tree r a b) j p (suc i) rest h =
     let y = rows (j + 1 + size a) p b ++ rest in
     let z = (x ++ rows (j + 1 + size a) p b) ++ rest in
     go (stands-in a (j + 1) j i y) (stands-in b (j + 1 + size a) p (i - size a) rest)
-    (same (rows j p (tree r a b) ++ rest) z (suc i) i (entry-past-one (r .kind) (r .format) (r .span .start) (r .span .count) p (r .depth) i z)
+    (same (rows j p (tree r a b) ++ rest) z (suc i) i (entry-past-one p r i z)
     ∙ ap (λ (l : List ℕ). descriptor l i) (append-assoc x (rows (j + 1 + size a) p b) rest))
     (λ l. same (x ++ y) y i (i - size a) (entry-past x y (size a) i (rows-length (j + 1) j a) l)) (leb (size a) i) refl
   where
@@ -123,7 +123,7 @@ module _ (s w : List ℕ) where
   unfolding stored
   stored-reads head (got a q) short coded readable =
       either (Stored-read s) (leb (size (a .ranges)) (room w))
-      (λ z i l k. let m = stands-in (a .ranges) 0 nobody i (drop (6 * size (a .ranges)) w) l in (m .0, reads-each s short (readable a q refl) (m .1) k))
+      (λ z i l k. let m = stands-in (a .ranges) 0 nobody i (drop (row-words * size (a .ranges)) w) l in (m .0, reads-each s short (readable a q refl) (m .1) k))
       (λ z. absurd (omega arith))
   stored-reads head (stop c a n) short coded readable = λ z. absurd (coded c a n refl z)
 

@@ -35,7 +35,7 @@ pub record Frame (kind depth : ℕ) (body : ℕ → Script) (s : List ℕ) (p : 
   pub inner : Found
   pub last : Place
   pub held : follow (body format) (held-to span s) (place (span .start) steps) ≡ got inner last
-  pub found : a ≡ only (ranged kind format depth span (inner .ranges))
+  pub found : a ≡ only (ranged kind format depth (p .at) span (inner .ranges))
 
 -- what is inside stays inside
 pub span-fits : {kind depth : ℕ} {body : ℕ → Script} {s : List ℕ} {p : Place} {a : Found} {q : Place} → (f : Frame kind depth body s p a q) → f .span .start + f .span .count ≤ length s
@@ -51,11 +51,11 @@ module _ (kind depth : ℕ) (body : ℕ → Script) (s : List ℕ) (p : Place) w
       → Word-read s p v w → Opaque-read s w x e
       → follow (body (num v)) (held-to x s) (place (x .start) (e .steps)) ≡ got i l
       → got i (record { at = e .at; steps = l .steps }) ≡ got b d
-      → got (only (ranged kind (num v) depth x (b .ranges))) d ≡ got a q
+      → got (only (ranged kind (num v) depth (p .at) x (b .ranges))) d ≡ got a q
       → Frame kind depth body s p a q
   framed-from {a} {q} v w x e b d i l r o h f g =
       let z : b ≡ i = cc in
-      let y : only (ranged kind (num v) depth x (b .ranges)) ≡ a = cc in
+      let y : only (ranged kind (num v) depth (p .at) x (b .ranges)) ≡ a = cc in
       let t : q ≡ record { at = e .at; steps = l .steps } = cc in
       let u : w .at + 4 ≡ p .at + 8 = omega (arith, r .at) in
       record {
@@ -70,7 +70,7 @@ module _ (kind depth : ℕ) (body : ℕ → Script) (s : List ℕ) (p : Place) w
         inner = i;
         last = l;
         held = h;
-        found = sym y ∙ ap (λ (n : Found). only (ranged kind (num v) depth x (n .ranges))) z;
+        found = sym y ∙ ap (λ (n : Found). only (ranged kind (num v) depth (p .at) x (n .ranges))) z;
       }
 
   pub frame-read : {a : Found} {q : Place} → follow (framed kind depth body) s p ≡ got a q → Frame kind depth body s p a q
@@ -94,13 +94,13 @@ pub record Pdu (depth : ℕ) (body : Script) (s : List ℕ) (p : Place) (a : Fou
   pub start : first .at ≡ p .at + 4
   pub inner : Found
   pub held : times count (follow body) s first ≡ got inner q
-  pub found : a ≡ only (ranged 4 0 depth (between (first .at) (q .at)) (inner .ranges))
+  pub found : a ≡ only (ranged 4 0 depth (p .at) (between (first .at) (q .at)) (inner .ranges))
 
 module _ (depth : ℕ) (body : Script) (s : List ℕ) (p : Place) where
   pdu-from : {a : Found} {q : Place} (v : Value) (w : Place) (i : Found) (e : Place) → Word-read s p v w → times (num v) (follow body) s w ≡ got i e
-      → got (only (ranged 4 0 depth (between (w .at) (e .at)) (i .ranges))) e ≡ got a q → Pdu depth body s p a q
+      → got (only (ranged 4 0 depth (p .at) (between (w .at) (e .at)) (i .ranges))) e ≡ got a q → Pdu depth body s p a q
   pdu-from {a} {q} v w i e r h g =
-      let y : only (ranged 4 0 depth (between (w .at) (e .at)) (i .ranges)) ≡ a = cc in
+      let y : only (ranged 4 0 depth (p .at) (between (w .at) (e .at)) (i .ranges)) ≡ a = cc in
       let t : e ≡ q = cc in
       record {
         count = num v;
@@ -110,7 +110,7 @@ module _ (depth : ℕ) (body : Script) (s : List ℕ) (p : Place) where
         start = r .at;
         inner = i;
         held = h ∙ ap (λ (n : Place). got i n) t;
-        found = sym y ∙ ap (λ (n : Place). only (ranged 4 0 depth (between (w .at) (n .at)) (i .ranges))) t;
+        found = sym y ∙ ap (λ (n : Place). only (ranged 4 0 depth (p .at) (between (w .at) (n .at)) (i .ranges))) t;
       }
 
   pub pdu-read : {a : Found} {q : Place} → follow (pdu depth body) s p ≡ got a q → Pdu depth body s p a q

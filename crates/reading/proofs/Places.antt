@@ -60,7 +60,7 @@ pub record Frame-at (kind depth : ℕ) (body : ℕ → Script) (s : List ℕ) (a
   pub fits : at + 8 + padded (be4 s (at + 4)) ≤ length s
   pub inner : Accepted (follow (body (be4 s at)) s (from (at + 8)))
   pub ranges : ranges-of (follow (framed kind depth body) s (from at))
-      ≡ ranged kind (be4 s at) depth (record { start = at + 8; count = be4 s (at + 4) }) (ranges-of (follow (body (be4 s at)) s (from (at + 8))))
+      ≡ ranged kind (be4 s at) depth at (record { start = at + 8; count = be4 s (at + 4) }) (ranges-of (follow (body (be4 s at)) s (from (at + 8))))
   pub end : end-of (follow (framed kind depth body) s (from at)) ≡ at + 8 + padded (be4 s (at + 4))
 
 module _ (kind depth : ℕ) (body : ℕ → Script) (s : List ℕ) (at : ℕ) where
@@ -73,13 +73,13 @@ module _ (kind depth : ℕ) (body : ℕ → Script) (s : List ℕ) (at : ℕ) wh
       let g : Accepted (follow (body (f .format)) (held-to (f .span) s) (from (f .span .start))) = alike-accepted k (subst Accepted (sym (f .held)) accepted) in
       let r : f .inner .ranges ≡ ranges-of (follow (body (f .format)) (held-to (f .span) s) (from (f .span .start))) = ap ranges-of (sym (f .held)) ∙ alike-ranges k in
       moved (f .format) (f .span) (f .format-is) x (rw n at (f .fits)) g
-      (ap ranges-of e ∙ ap (λ (b : Found). b .ranges) (f .found) ∙ ap (λ (t : Forest). ranged kind (f .format) depth (f .span) t) r)
+      (ap ranges-of e ∙ ap (λ (b : Found). b .ranges) (f .found) ∙ ap (λ (t : Forest). ranged kind (f .format) depth at (f .span) t) r)
       (ap end-of e ∙ f .end ∙ ap (λ (m : ℕ). at + 8 + padded m) n)
     where
       moved : (format : ℕ) (span : Span) → format ≡ be4 s at → span ≡ record { start = at + 8; count = be4 s (at + 4) }
           → at + 8 + padded (be4 s (at + 4)) ≤ length s
           → Accepted (follow (body format) (held-to span s) (from (span .start)))
-          → ranges-of (follow (framed kind depth body) s (from at)) ≡ ranged kind format depth span (ranges-of (follow (body format) (held-to span s) (from (span .start))))
+          → ranges-of (follow (framed kind depth body) s (from at)) ≡ ranged kind format depth at span (ranges-of (follow (body format) (held-to span s) (from (span .start))))
           → end-of (follow (framed kind depth body) s (from at)) ≡ at + 8 + padded (be4 s (at + 4))
           → Frame-at kind depth body s at
       moved format span u v h g r t =
@@ -143,7 +143,7 @@ none-lies sc s at = (refl, refl)
 pub record Pdu-at (depth : ℕ) (body : Script) (s : List ℕ) (at : ℕ) : Type 0 where
   pub fits : at + 4 ≤ length s
   pub inner : Accepted (times (be4 s at) (follow body) s (from (at + 4)))
-  pub ranges : ranges-of (follow (pdu depth body) s (from at)) ≡ ranged 4 0 depth (between (at + 4) (end-of (times (be4 s at) (follow body) s (from (at + 4))))) (ranges-of (times (be4 s at) (follow body) s (from (at + 4))))
+  pub ranges : ranges-of (follow (pdu depth body) s (from at)) ≡ ranged 4 0 depth at (between (at + 4) (end-of (times (be4 s at) (follow body) s (from (at + 4))))) (ranges-of (times (be4 s at) (follow body) s (from (at + 4))))
   pub end : end-of (follow (pdu depth body) s (from at)) ≡ end-of (times (be4 s at) (follow body) s (from (at + 4)))
 
 module _ (depth : ℕ) (body : Script) (s : List ℕ) (at : ℕ) where
@@ -158,11 +158,11 @@ module _ (depth : ℕ) (body : Script) (s : List ℕ) (at : ℕ) where
       (ap ranges-of e ∙ ap (λ (b : Found). b .ranges) (f .found) ∙ cc′ (f .first .at) (q .at) (f .inner .ranges) (f .start) z y)
       (ap end-of e ∙ z)
     where
-      cc′ : {i m : ℕ} {t : Forest} (h j : ℕ) (u : Forest) → h ≡ i → j ≡ m → u ≡ t → ranged 4 0 depth (between h j) u ≡ ranged 4 0 depth (between i m) t
+      cc′ : {i m : ℕ} {t : Forest} (h j : ℕ) (u : Forest) → h ≡ i → j ≡ m → u ≡ t → ranged 4 0 depth at (between h j) u ≡ ranged 4 0 depth at (between i m) t
       cc′ h j u e f g = rw (e, f, g)
 
       moved : (n : ℕ) → n ≡ be4 s at → at + 4 ≤ length s → Accepted (times n (follow body) s (from (at + 4)))
-          → ranges-of (follow (pdu depth body) s (from at)) ≡ ranged 4 0 depth (between (at + 4) (end-of (times n (follow body) s (from (at + 4))))) (ranges-of (times n (follow body) s (from (at + 4))))
+          → ranges-of (follow (pdu depth body) s (from at)) ≡ ranged 4 0 depth at (between (at + 4) (end-of (times n (follow body) s (from (at + 4))))) (ranges-of (times n (follow body) s (from (at + 4))))
           → end-of (follow (pdu depth body) s (from at)) ≡ end-of (times n (follow body) s (from (at + 4)))
           → Pdu-at depth body s at
       moved n u h x r t = record { fits = h; inner = rw u at x; ranges = rw u at r; end = rw u at t }

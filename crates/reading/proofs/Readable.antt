@@ -77,7 +77,7 @@ good-framed kind depth body is good s p a q e = go (frame-read kind depth body s
   where
     go : Frame kind depth body s p a q → Readable s (a .ranges)
     go f =
-        let r : Range = record { kind = kind; format = f .format; span = f .span; depth = depth } in
+        let r : Range = record { kind = kind; format = f .format; span = f .span; depth = depth; first = p .at } in
         subst (λ (b : Found). Readable s (b .ranges)) (sym (f .found))
         (also {r = r} (λ h. fields-held s r (f .steps) (span-fits f) (rw (is (f .format) h) at (f .held)))
         (wide s (f .span .start + f .span .count) (good (f .format) (up-to s r) (place (f .span .start) (f .steps)) (f .inner) (f .last) (f .held))) none)
@@ -115,8 +115,8 @@ good-sample =
 -- a datagram that was read from p to q: one range, its header's values, and its samples
 pub record Datagram-of (s : List ℕ) (p : Place) (a : Found) (q : Place) : Type 0 where
   pub inner : Forest
-  pub ranges : a .ranges ≡ ranged 0 0 0 (between (p .at) (q .at)) inner
-  pub holds : Holds s (record { kind = 0; format = 0; span = between (p .at) (q .at); depth = 0 }) (a .values) inner
+  pub ranges : a .ranges ≡ ranged 0 0 0 (p .at) (between (p .at) (q .at)) inner
+  pub holds : Holds s (record { kind = 0; format = 0; span = between (p .at) (q .at); depth = 0; first = p .at }) (a .values) inner
   pub readable : Readable s inner
 
 module _ (s : List ℕ) (p : Place) {a : Found} {q : Place} (i : p .at ≤ length s) (e : follow datagram s p ≡ got a q) where
@@ -144,8 +144,8 @@ module _ (s : List ℕ) (p : Place) {a : Found} {q : Place} (i : p .at ≤ lengt
           let m : vs ≡ a .values = ap (λ (z : Found). z .values) b in
           record {
             inner = r .ranges;
-            ranges = sym (ap (λ (z : Found). z .ranges) b) ∙ ap (λ (z : ℕ). ranged 0 0 0 (between (p .at) z) (r .ranges)) d;
-            holds = subst (λ (z : List Value). Holds s (record { kind = 0; format = 0; span = between (p .at) (q .at); depth = 0 }) z (r .ranges)) m
+            ranges = sym (ap (λ (z : Found). z .ranges) b) ∙ ap (λ (z : ℕ). ranged 0 0 0 (p .at) (between (p .at) z) (r .ranges)) d;
+            holds = subst (λ (z : List Value). Holds s (record { kind = 0; format = 0; span = between (p .at) (q .at); depth = 0; first = p .at }) z (r .ranges)) m
                 (record { next = x; fields = record { lies = l; reads = f }; found = r; last = y; rest = repeat-is (last-number vs) (sample depth-limit) _ x ∙ g; ranges = refl });
             readable = wide s (p .at + (q .at - p .at)) (good-times (follow (sample depth-limit)) good-sample (last-number vs) _ x r y g);
           }

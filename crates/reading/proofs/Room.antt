@@ -144,7 +144,7 @@ thrifty-sample limit = thrifty-framed 1 0 (opened (samples limit)) (thrifty-open
 
 -- what a datagram finds that begins at i, once its samples are read up to e
 abbrev pub whole : ℕ → List Value → Found → Place → Found
-whole i vs r e = record { values = vs; ranges = ranged 0 0 0 (between i (e .at)) (r .ranges) }
+whole i vs r e = record { values = vs; ranges = ranged 0 0 0 i (between i (e .at)) (r .ranges) }
 
 -- a datagram is its header, and then its samples
 pub datagram-is : (limit : ℕ) (s : List ℕ) (p : Place)

@@ -9,7 +9,7 @@ use native.Mathlib.Numerals.{towards-suc}
 use lib.ListN.{length, set, take, drop, length-append, length-drop, take-append-drop, drop-of-length-le}
 use lib.Seq.{sets, length-sets, sets-eq, set-comm, take-all, length-take-le}
 use Rattle.reading.specs.Script.{Range, Forest, bare, tree, _⊕_}
-use Rattle.reading.specs.Answer.{size, rows}
+use Rattle.reading.specs.Answer.{row-words, size, row-of, rows}
 
 -- the list l with ws stored from place i on
 unfoldable pub write : List ℕ → ℕ → List ℕ → List ℕ
@@ -48,10 +48,10 @@ pub write-under : (a b l : List ℕ) (i j : ℕ) → j ≡ i + length a → writ
 unfolding write
 write-under a b l i j e = rw e (sets-under a b l i)
 
--- six stores in a row
-pub write-six : (l : List ℕ) (i a b c d e f : ℕ) → set (set (set (set (set (set l i a) (i + 1) b) (i + 2) c) (i + 3) d) (i + 4) e) (i + 5) f ≡ write l i (a ∷ b ∷ c ∷ d ∷ e ∷ f ∷ [])
+-- seven stores in a row
+pub write-seven : (l : List ℕ) (i a b c d e f g : ℕ) → set (set (set (set (set (set (set l i a) (i + 1) b) (i + 2) c) (i + 3) d) (i + 4) e) (i + 5) f) (i + 6) g ≡ write l i (a ∷ b ∷ c ∷ d ∷ e ∷ f ∷ g ∷ [])
 unfolding write
-write-six l i a b c d e f = simp towards-suc
+write-seven l i a b c d e f g = simp towards-suc
 
 -- all that is written from the first word on, and what stays behind it
 pub write-all : (l ws : List ℕ) → length ws ≤ length l → write l 0 ws ≡ ws ++ drop (length ws) l
@@ -84,11 +84,11 @@ write-rest l m ws h =
     rw (n, append-nil, rest-is) (sym (sets-right (take m l) (drop m l) 0 ws) ∙ ap (λ (j : ℕ). sets (take m l ++ drop m l) j ws) k ∙ ap (λ (x : List ℕ). sets x m ws) (take-append-drop m l))
 
 -- ---- rows of descriptors
-pub rows-length : (i p : ℕ) (f : Forest) → length (rows i p f) ≡ 6 * size f
+pub rows-length : (i p : ℕ) (f : Forest) → length (rows i p f) ≡ row-words * size f
 unfolding rows size
 rows-length i p bare = refl
 rows-length i p (tree r inner after) =
-    let a : (q : ℕ) → length (rows (i + 1) q inner) ≡ 6 * size inner = λ q. rows-length (i + 1) q inner in
+    let a : (q : ℕ) → length (rows (i + 1) q inner) ≡ row-words * size inner = λ q. rows-length (i + 1) q inner in
     let b = rows-length (i + 1 + size inner) p after in
     simp (length-append, a, b) (omega arith)
 
@@ -100,7 +100,7 @@ rows-joined i p (tree r inner after) g =
     let e : rows (i + 1 + size inner) p (after ⊕ g) ≡ rows (i + 1 + size inner) p after ++ rows (i + (1 + size inner + size after)) p g = rows-joined (i + 1 + size inner) p after g ∙ ap (λ (m : ℕ). rows (i + 1 + size inner) p after ++ rows m p g) k in
     simp (e, append-assoc)
 
--- one range: its own six words, and those of what is inside it
-pub rows-one : (i p : ℕ) (r : Range) (inner : Forest) → rows i p (tree r inner bare) ≡ (r .kind ∷ r .format ∷ r .span .start ∷ r .span .count ∷ p ∷ r .depth ∷ []) ++ rows (i + 1) i inner
+-- one range: its own words, and those of what is inside it
+pub rows-one : (i p : ℕ) (r : Range) (inner : Forest) → rows i p (tree r inner bare) ≡ row-of p r ++ rows (i + 1) i inner
 unfolding rows
-rows-one i p r inner = ap (λ (t : List ℕ). r .kind ∷ r .format ∷ r .span .start ∷ r .span .count ∷ p ∷ r .depth ∷ t) (append-nil (rows (i + 1) i inner))
+rows-one i p r inner = ap (λ (t : List ℕ). row-of p r ++ t) (append-nil (rows (i + 1) i inner))

@@ -1,12 +1,12 @@
 -- What the calls answer: one datagram, a run of them, the fields of a descriptor, and its payload. Assumes nothing.
-use Prim.Native.Nat.{ℕ, zero, suc, _+_, _*_, _/_}
+use Prim.Native.Nat.{ℕ, zero, suc, _+_, _*_, _-_, _/_}
 use mathlib.Core.Bool.{Bool, true, false, cond}
 use mathlib.Core.List.{List, [], _∷_, _++_}
 use lib.ListN.{length, take, drop, getD}
 use lib.Dec.{eqb, leb}
-use Rattle.reading.specs.Bytes.{be4}
+use Rattle.reading.specs.Bytes.{be4, padded}
 use Rattle.reading.specs.Utf8.{_&_}
-use Rattle.reading.specs.Script.{Span, Value, number, integer, octets, address, part, Forest, bare, tree, _⊕_, Found, nothing, give}
+use Rattle.reading.specs.Script.{Span, Value, number, integer, octets, address, part, Range, Forest, bare, tree, _⊕_, Found, nothing, give}
 use Rattle.reading.specs.Cursor.{Place, Out, got, stop, Reader, then, follow}
 use Rattle.reading.specs.Layout.{num, oct, Field, list, Row, words, only, flows, samples, header, depth-limit, datagram}
 use Rattle.reading.specs.Values.{zeros, Reading, valued, reading}
@@ -27,21 +27,27 @@ from at = record { at = at; steps = 0 }
 abbrev pub nobody : ℕ
 nobody = 4294967295
 
+-- the words of a descriptor
+abbrev pub row-words : ℕ
+row-words = 7
+
 -- how many descriptors
 unfoldable pub size : Forest → ℕ
 size bare = 0
 size (tree r inner after) = 1 + size inner + size after
 
--- the descriptors, six words each, parents first: i is the index of the first, p its parent's
+-- the words of a range whose parent has index p
+abbrev pub row-of : (p : ℕ) → Range → List ℕ
+row-of p r = r .kind ∷ r .format ∷ r .span .start ∷ r .span .count ∷ p ∷ r .depth ∷ r .first ∷ []
+
+-- the descriptors, parents first: i is the index of the first, p its parent's
 unfoldable pub rows : (i p : ℕ) → Forest → List ℕ
 rows i p bare = []
-rows i p (tree r inner after) =
-    r .kind ∷ r .format ∷ r .span .start ∷ r .span .count ∷ p ∷ r .depth
-    ∷ rows (i + 1) i inner ++ rows (i + 1 + size inner) p after
+rows i p (tree r inner after) = row-of p r ++ (rows (i + 1) i inner ++ rows (i + 1 + size inner) p after)
 
 -- how many descriptors a store holds
 abbrev pub room : List ℕ → ℕ
-room w = length w / 6
+room w = length w / row-words
 
 -- ---- one datagram
 
@@ -98,7 +104,7 @@ stored head (got a p) w =
       steps = p .steps;
       needed = size (a .ranges);
       head = head (a .values);
-      store = rows 0 nobody (a .ranges) ++ drop (6 * size (a .ranges)) w;
+      store = rows 0 nobody (a .ranges) ++ drop (row-words * size (a .ranges)) w;
     })
     (refused 9 0 (p .steps) (size (a .ranges)) w)
 stored head (stop c a n) w = refused c a n 0 w
@@ -202,6 +208,12 @@ segment-at s at = answered (limited s
 unfoldable pub payload-span : (input : List ℕ) → (start extent : ℕ) → Span
 payload-span s start extent = limited s (cond (leb (start + extent) (length s)) (record { start = start; count = extent }) no-span) no-span
 
--- that part of the input
+-- where all of it lies, from its first byte to the end of its pad: empty likewise, and where its first byte is behind its start
+unfoldable pub whole-span : (input : List ℕ) → (start extent first : ℕ) → Span
+whole-span s start extent first = limited s
+    (cond (leb first start & leb (start + padded extent) (length s)) (record { start = first; count = start + padded extent - first }) no-span)
+    no-span
+
+-- the payload: that part of the input
 unfoldable pub payload : (input : List ℕ) → (start extent : ℕ) → List ℕ
 payload s start extent = take (payload-span s start extent .count) (drop (payload-span s start extent .start) s)

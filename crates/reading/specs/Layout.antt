@@ -109,9 +109,9 @@ protocol = plain (tested (known header-protocols) 6)
 
 -- ---- frames
 
--- one range, with what is inside it
-abbrev pub ranged : (kind format depth : ℕ) → Span → Forest → Forest
-ranged k f d x inner = tree (record { kind = k; format = f; span = x; depth = d }) inner bare
+-- one range, with what is inside it; `o` is the first byte
+abbrev pub ranged : (kind format depth first : ℕ) → Span → Forest → Forest
+ranged k f d o x inner = tree (record { kind = k; format = f; span = x; depth = d; first = o }) inner bare
 
 -- what is found of no value, in these ranges
 abbrev pub only : Forest → Found
@@ -123,11 +123,11 @@ between a e = record { start = a; count = e - a }
 
 -- a format word and an opaque that holds what `body` says of that format
 abbrev pub framed : (kind depth : ℕ) → (ℕ → Script) → Script
-framed k d body = item word (λ f. within (body (num f)) (λ x a. give (only (ranged k (num f) d x (a .ranges)))))
+framed k d body = here (λ o. item word (λ f. within (body (num f)) (λ x a. give (only (ranged k (num f) d o x (a .ranges))))))
 
 -- a PDU: a record count and its records; its range is from after the count to the end of the last record
 abbrev pub pdu : (depth : ℕ) → Script → Script
-pdu d body = item word (λ n. here (λ a. repeat (num n) body (λ r. here (λ e. give (only (ranged 4 0 d (between a e) (r .ranges)))))))
+pdu d body = here (λ o. item word (λ n. here (λ a. repeat (num n) body (λ r. here (λ e. give (only (ranged 4 0 d o (between a e) (r .ranges))))))))
 
 -- ---- document 01's tables
 
@@ -186,7 +186,7 @@ header = version ∷ addr ∷ words 4
 unfoldable pub datagram-to : (limit : ℕ) → Script
 datagram-to limit =
     here (λ a. fields header (λ vs. repeat (last-number vs) (sample limit) (λ r. here (λ e.
-    give (record { values = vs; ranges = ranged 0 0 0 (between a e) (r .ranges) })))))
+    give (record { values = vs; ranges = ranged 0 0 0 a (between a e) (r .ranges) })))))
 
 abbrev pub depth-limit : ℕ
 depth-limit = 8

@@ -19,12 +19,14 @@ pub data Value : Type 0 where
   address : (type : ℕ) → (octets : List ℕ) → Value
   part : Span → Value
 
--- a range that gets a descriptor: its kind (0 datagram, 1 sample, 2 flow record, 3 counter record, 4 PDU), format word and depth
+-- a range that gets a descriptor: its kind (0 datagram, 1 sample, 2 flow record, 3 counter record, 4 PDU), format word and depth, and
+-- the first byte of what it is the range of: a datagram's own, a frame's format word, a PDU's count word
 pub record Range : Type 0 where
   pub kind : ℕ
   pub format : ℕ
   pub span : Span
   pub depth : ℕ
+  pub first : ℕ
 
 -- ranges side by side, each with those inside it
 pub data Forest : Type 0 where

@@ -2,7 +2,9 @@
 ghost use Prim.Native.Nat.{_+_, _*_, _≤_, _<_};
 ghost use mathlib.Core.Path.{_≡_};
 ghost use lib.ListN.{length};
+ghost use Rattle.reading.specs.Answer.{row-words};
 use datagram::decode::Answer;
+use flows::put::DESCRIPTOR_WORDS;
 use libc::STDOUT_FILENO;
 use xdr::Address;
 
@@ -55,7 +57,7 @@ pub fn word(name: &[u8], w: u32) {
 
 // The descriptor whose first word is at `at`.
 fn descriptor(store: &[u32], at: usize)
-    requires { ⌜ at + 6 ≤ length (now store) ⌝ }
+    requires { ⌜ at + row-words ≤ length (now store) ⌝ }
 {
     word(b"; ", store[at]);
     word(b",", store[at + 1]);
@@ -63,31 +65,32 @@ fn descriptor(store: &[u32], at: usize)
     word(b",", store[at + 3]);
     word(b",", store[at + 4]);
     word(b",", store[at + 5]);
+    word(b",", store[at + 6]);
 }
 
 // The first n descriptors.
 fn descriptors(store: &[u32], n: usize)
-    requires { ⌜ 6 * n ≤ length (now store) ⌝ }
+    requires { ⌜ row-words * n ≤ length (now store) ⌝ }
 {
     let mut i = 0;
     while i < n {
-        descriptor(store, 6 * i);
+        descriptor(store, DESCRIPTOR_WORDS * i);
         i = i + 1;
     }
 }
 
 // The end of a line: how many of the store's words are as they were behind the first n descriptors, and those.
 fn behind(store: &[u32], n: usize)
-    requires { ⌜ 6 * n ≤ length (now store) ⌝ }
+    requires { ⌜ row-words * n ≤ length (now store) ⌝ }
 {
-    out::number(b" kept=", kept(store, 6 * n) as u64);
+    out::number(b" kept=", kept(store, DESCRIPTOR_WORDS * n) as u64);
     descriptors(store, n);
     out::text(b"\n");
 }
 
 // The store that a call leaves: it has descriptors where the code is 0.
 pub fn left(a: Answer, store: &[u32])
-    requires { ⌜ (a .code ≡ 0 → 6 * a .needed ≤ length (now store)) ⌝ }
+    requires { ⌜ (a .code ≡ 0 → row-words * a .needed ≤ length (now store)) ⌝ }
 {
     let code = a.code;
     let n = a.needed;

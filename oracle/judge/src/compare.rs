@@ -1,7 +1,7 @@
 //! One input: the library's answers against the crate's and against document 01's reading.
 
 use crate::fault::Library;
-use crate::paper::{self, Opened, Reading};
+use crate::paper::{self, Cursor, Opened, Reading};
 use crate::reach;
 use crate::shape::*;
 use crate::structure::{self, Held, Node};
@@ -46,8 +46,8 @@ pub fn brought_inside(data: &[u8], reading: &Reading, run: bool) -> Result<(Vec<
     let again = reading_of(&inside, run);
     let answer = |of: &Reading| (of.code, of.at, of.steps);
     same("brought inside: answer", &answer(&again), &answer(reading))?;
-    let shape = |of: &Reading| of.store.iter().map(|d| [d[0], d[2], d[3], d[4], d[5]]).collect::<Vec<_>>();
-    same("brought inside: descriptors", &shape(&again), &shape(reading))?;
+    let but_format = |of: &Reading| of.store.iter().map(|[kind, _, rest @ ..]| (*kind, *rest)).collect::<Vec<_>>();
+    same("brought inside: descriptors", &but_format(&again), &but_format(reading))?;
     Ok((inside, again))
 }
 
@@ -55,7 +55,7 @@ pub fn brought_inside(data: &[u8], reading: &Reading, run: bool) -> Result<(Vec<
 struct Ours {
     answer: (u32, usize, usize, usize),
     header: Vec<Value>,
-    store: Vec<[u32; 6]>,
+    store: Vec<Descriptor>,
 }
 
 /// What every word of a lent store holds beforehand.
@@ -108,9 +108,9 @@ impl Judge {
             let got = self.library.decode(data, &mut store);
             (got.answer, got.values())
         };
-        let written = if answer.code == 0 { answer.needed.saturating_mul(6).min(words) } else { 0 };
+        let written = if answer.code == 0 { answer.needed.saturating_mul(DESCRIPTOR_WORDS).min(words) } else { 0 };
         same("store: words behind the last descriptor", &&store[written..], &&lent(words)[written..])?;
-        let store = store[..written].chunks_exact(6).map(|words| words.try_into().unwrap()).collect();
+        let store = store[..written].chunks_exact(DESCRIPTOR_WORDS).map(|words| words.try_into().unwrap()).collect();
         Ok(Ours { answer: (answer.code, answer.at, answer.steps, answer.needed), header, store })
     }
 
@@ -118,8 +118,8 @@ impl Judge {
     fn answers(&mut self, data: &[u8], reading: &Reading, run: bool) -> Checked {
         let of = if run { "run" } else { "decode" };
         let needed = reading.store.len();
-        let spare = (data.len() * 7 + needed) % 12;
-        let ours = self.call(data, needed * 6 + spare, run)?;
+        let spare = (data.len() * 5 + needed) % (2 * DESCRIPTOR_WORDS);
+        let ours = self.call(data, needed * DESCRIPTOR_WORDS + spare, run)?;
         same(&format!("{of}: code"), &ours.answer.0, &reading.code)?;
         same(&format!("{of}: position"), &ours.answer.1, &reading.at)?;
         same(&format!("{of}: steps"), &ours.answer.2, &reading.steps)?;
@@ -139,7 +139,7 @@ impl Judge {
     /// A refusal that is not for want of room is the same with no room at all.
     fn too_little_room(&mut self, data: &[u8], reading: &Reading, run: bool) -> Checked {
         let needed = reading.store.len();
-        let words = if needed == 0 { 0 } else { (needed - 1) * 6 + data.len() % 6 };
+        let words = if needed == 0 { 0 } else { (needed - 1) * DESCRIPTOR_WORDS + data.len() % DESCRIPTOR_WORDS };
         let ours = self.call(data, words, run)?;
         let expected = match (reading.code, needed) {
             (0, 1..) => (9, 0, reading.steps, needed),
@@ -155,19 +155,34 @@ impl Judge {
         Ok(())
     }
 
-    /// The payload and the fields of one descriptor.
-    fn fields(&mut self, data: &[u8], descriptor: &[u32; 6]) -> Checked {
-        let [kind, format, start, length, _, _] = *descriptor;
+    /// The payload, the whole and the fields of one descriptor.
+    fn fields(&mut self, data: &[u8], descriptor: &Descriptor) -> Checked {
+        let [kind, format, start, length, ..] = *descriptor;
         let payload = self.library.payload(data, descriptor);
         same("payload", &(payload.start, payload.count), &(start as usize, length as usize))?;
+        self.whole(data, descriptor)?;
         match LAYOUTS.iter().position(|row| (row.kind, row.format) == (kind, format)) {
             Some(row) => self.reading(data, descriptor, row).map(|_| ()),
             None => Ok(()),
         }
     }
 
+    /// All of what a descriptor of the input stands for; of a sample or record it is read once more, from its first byte on.
+    fn whole(&self, data: &[u8], descriptor: &Descriptor) -> Checked {
+        let [kind, format, start, length, _, _, first] = *descriptor;
+        let whole = self.library.whole(data, descriptor);
+        same("whole", &(whole.start, whole.count), &paper::whole(data, descriptor))?;
+        if !matches!(kind, SAMPLE | FLOW | COUNTER) {
+            return same("whole: its end", &(whole.start + whole.count), &((start + length) as usize));
+        }
+        let mut cursor = Cursor::new(data, first as usize, data.len());
+        let again = cursor.word().and_then(|format| Ok((format, cursor.opaque()?)));
+        same("whole, read again", &again, &Ok((format, (start as usize, length as usize))))?;
+        same("whole: its end", &(whole.start + whole.count), &cursor.at)
+    }
+
     /// One field reading against document 01's; answers its code.
-    fn reading(&self, data: &[u8], descriptor: &[u32; 6], row: usize) -> Result<u32, Difference> {
+    fn reading(&self, data: &[u8], descriptor: &Descriptor, row: usize) -> Result<u32, Difference> {
         let layout = &LAYOUTS[row];
         let name = format_args!("fields of {}/{}", layout.kind, layout.format).to_string();
         let (outcome, values) = self.library.read(row, data, descriptor);
@@ -181,9 +196,12 @@ impl Judge {
         Ok(expected.0)
     }
 
-    /// A descriptor that is not one of the input's: another range, another kind, or another call.
-    fn changed_fields(&mut self, data: &[u8], descriptor: &[u32; 6], pick: usize) -> Checked {
+    /// A descriptor that is not one of the input's: another range, another kind, or another call; and another first byte, which no
+    /// field reading looks at.
+    fn changed_fields(&mut self, data: &[u8], descriptor: &Descriptor, pick: usize) -> Checked {
         let mut changed = *descriptor;
+        let [.., first] = &mut changed;
+        *first = !*first;
         let own = LAYOUTS.iter().position(|row| (row.kind, row.format) == (descriptor[0], descriptor[1]));
         let mut row = own.unwrap_or(pick % LAYOUTS.len());
         match pick % 11 {
@@ -204,7 +222,18 @@ impl Judge {
         let inside = changed[2] as usize + changed[3] as usize <= data.len();
         let expected = if inside { (changed[2] as usize, changed[3] as usize) } else { (0, 0) };
         let payload = self.library.payload(data, &changed);
-        same("payload of a changed descriptor", &(payload.start, payload.count), &expected)
+        same("payload of a changed descriptor", &(payload.start, payload.count), &expected)?;
+        self.changed_whole(data, changed, pick)
+    }
+
+    /// All of a changed descriptor, whose first byte is some way before its start, or behind it.
+    fn changed_whole(&self, data: &[u8], mut changed: Descriptor, pick: usize) -> Checked {
+        for first in [changed[6], changed[2].saturating_sub(pick as u32 % 16), changed[2].saturating_add(1)] {
+            changed[6] = first;
+            let whole = self.library.whole(data, &changed);
+            same("whole of a changed descriptor", &(whole.start, whole.count), &paper::whole(data, &changed))?;
+        }
+        Ok(())
     }
 
     /// A segment and a list's word in places that no answer named.
@@ -269,7 +298,7 @@ impl Judge {
 
     fn equal(&self, data: &[u8], crates: &Theirs, run: bool) -> Checked {
         let of = if run { "run" } else { "decode" };
-        let ours = self.call(data, data.len() / 4 * 6, run)?;
+        let ours = self.call(data, data.len() / 4 * DESCRIPTOR_WORDS, run)?;
         let datagrams = match crates {
             Ok(datagrams) => datagrams,
             Err(code) => return same(&format!("{of} and the crate: code"), &ours.answer.0, code),
@@ -283,10 +312,14 @@ impl Judge {
         Ok(())
     }
 
-    fn equal_node(&self, data: &[u8], descriptor: &[u32; 6], node: &Node) -> Checked {
-        let [kind, format, _, _, parent, depth] = *descriptor;
+    fn equal_node(&self, data: &[u8], descriptor: &Descriptor, node: &Node) -> Checked {
+        let [kind, format, _, _, parent, depth, first] = *descriptor;
         let place = (node.kind, node.format, node.parent, node.depth);
         same("the crate: kind, format, parent, depth", &(kind, format, parent, depth), &place)?;
+        if matches!(kind, SAMPLE | FLOW | COUNTER) {
+            let word = data.get(first as usize..).and_then(|rest| rest.first_chunk());
+            same("the crate: format word at the first byte", &word, &Some(&node.format.to_be_bytes()))?;
+        }
         same("the crate: what only it opens", &only_the_crate_opens(kind, format), &node.opened)?;
         same("the crate: what is opened", &layout_of(kind, format).is_some(), &!node.held.is_empty())?;
         if let Some(raw) = node.raw {
@@ -358,7 +391,7 @@ impl Judge {
 /// What each of the three answers to an input, for people.
 pub fn show(data: &[u8], fault: u32) {
     let library = Library { fault };
-    let mut store = lent(data.len() / 4 * 6);
+    let mut store = lent(data.len() / 4 * DESCRIPTOR_WORDS);
     let (one, run) = (library.decode(data, &mut store).answer, library.decode_run(data, &mut store));
     println!("library: {one:?}, as a run {run:?}");
     let answer = |of: Reading| format!("code {} at {}, steps {}, descriptors {}", of.code, of.at, of.steps, of.store.len());

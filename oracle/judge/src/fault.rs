@@ -2,10 +2,11 @@
 //! whether the comparison notices. 0 is no fault.
 
 use crate::library::{self, Answer, Decoded, Listed, Outcome, Segment, Span};
+use crate::shape::*;
 use crate::value::Value;
 
 /// What each fault does; the first is number 1.
-pub const FAULTS: [&str; 16] = [
+pub const FAULTS: [&str; 19] = [
     "code 2 is given four bytes too late",
     "an accepted datagram has a step too many",
     "the header's sequence number has its bytes turned round",
@@ -22,6 +23,9 @@ pub const FAULTS: [&str; 16] = [
     "an ill-formed string is answered with 2",
     "a raw record's format has lost its enterprise",
     "a run's second datagram counts its parents from its own first descriptor",
+    "a record's first byte is its payload's",
+    "a PDU's first byte is the one behind its count word",
+    "all of a record lacks its pad",
 ];
 
 pub struct Library {
@@ -50,7 +54,7 @@ impl Library {
         got
     }
 
-    pub fn read(&self, row: usize, data: &[u8], descriptor: &[u32; 6]) -> (Outcome, Vec<Value>) {
+    pub fn read(&self, row: usize, data: &[u8], descriptor: &Descriptor) -> (Outcome, Vec<Value>) {
         let (outcome, mut values) = library::read(row, data, descriptor);
         if self.fault == 11 && row == 9 {
             values.swap(2, 3);
@@ -58,10 +62,19 @@ impl Library {
         (outcome, values)
     }
 
-    pub fn payload(&self, data: &[u8], descriptor: &[u32; 6]) -> Span {
+    pub fn payload(&self, data: &[u8], descriptor: &Descriptor) -> Span {
         let mut span = library::payload(data, descriptor);
         if self.fault == 13 {
             span.count = span.count.next_multiple_of(4);
+        }
+        span
+    }
+
+    pub fn whole(&self, data: &[u8], descriptor: &Descriptor) -> Span {
+        let mut span = library::whole(data, descriptor);
+        let [_, _, _, length, ..] = descriptor;
+        if self.fault == 19 {
+            span.count = span.count.saturating_sub(length.wrapping_neg() as usize % 4);
         }
         span
     }
@@ -83,33 +96,45 @@ impl Library {
     }
 
     fn spoil_answer(&self, answer: &mut Answer, store: &mut [u32]) {
-        let written = answer.needed * 6;
+        let written = answer.needed * DESCRIPTOR_WORDS;
         match (self.fault, answer.code) {
             (1, 2) => answer.at += 4,
             (2, 0) => answer.steps += 1,
-            (4, 0) => spoil(store, written, |d| d[5] += u32::from(d[0] == 4)),
+            (4, 0) => spoil(store, written, |[kind, .., depth, _]| *depth += u32::from(*kind == PDU)),
             (5, 0) if written < store.len() => store[written] = 0,
             (6, 1..) if !store.is_empty() => store[0] = 0,
             (9, 8) | (14, 7) => answer.code = 2,
             (12, 9) => answer.needed -= 1,
-            (15, 0) => spoil(store, written, |d| d[1] &= 0xfff),
+            (15, 0) => spoil(store, written, |[_, format, ..]| *format &= 0xfff),
+            (17, 0) => spoil_firsts(store, written, &[FLOW, COUNTER]),
+            (18, 0) => spoil_firsts(store, written, &[PDU]),
             _ => {}
         }
     }
 }
 
-fn spoil(store: &mut [u32], written: usize, change: impl Fn(&mut [u32])) {
-    store[..written].chunks_exact_mut(6).for_each(change);
+fn spoil(store: &mut [u32], written: usize, change: impl Fn(&mut Descriptor)) {
+    for words in store[..written].chunks_exact_mut(DESCRIPTOR_WORDS) {
+        change(words.try_into().unwrap());
+    }
 }
 
 fn spoil_parents(store: &mut [u32], needed: usize) {
-    let mut first = 0;
-    for index in 0..needed {
-        let descriptor = &mut store[index * 6..index * 6 + 6];
-        if descriptor[0] == 0 {
-            first = index as u32;
+    let mut datagram = 0;
+    for (index, words) in store.chunks_exact_mut(DESCRIPTOR_WORDS).take(needed).enumerate() {
+        if words[0] == DATAGRAM {
+            datagram = index as u32;
         } else {
-            descriptor[4] -= first;
+            words[4] -= datagram;
         }
     }
+}
+
+/// Of these kinds, the first byte is the start.
+fn spoil_firsts(store: &mut [u32], written: usize, kinds: &[u32]) {
+    spoil(store, written, |[kind, _, start, .., first]| {
+        if kinds.contains(kind) {
+            *first = *start;
+        }
+    });
 }

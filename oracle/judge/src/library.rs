@@ -1,6 +1,7 @@
 //! The library's calls and structs as ../../../include/latchplume.h declares them. `c_checks` writes a C program that does not compile
 //! where one of these declarations is not the header's.
 
+use crate::shape::{Descriptor, DESCRIPTOR_WORDS};
 use crate::value::Value;
 use std::fmt::Write;
 use std::mem::{offset_of, size_of};
@@ -215,10 +216,10 @@ macro_rules! readings {
         }
 
         /// The field reading of a row of `shape::LAYOUTS`: its outcome and its values.
-        pub fn read(row: usize, data: &[u8], descriptor: &[u32; 6]) -> (Outcome, Vec<Value>) {
+        pub fn read(row: usize, data: &[u8], descriptor: &Descriptor) -> (Outcome, Vec<Value>) {
             match row {
                 $($row => {
-                    // SAFETY: the pointers are those of a slice and of six words, as the header asks for.
+                    // SAFETY: the pointers are those of a slice and of a descriptor's words, as the header asks for.
                     let got = unsafe { $call(data.as_ptr(), data.len(), descriptor.as_ptr()) };
                     (got.outcome, got.values())
                 })*
@@ -268,6 +269,7 @@ extern "C" {
     fn latchplume_decode(data: *const u8, length: usize, store: *mut u32, words: usize) -> Decoded;
     fn latchplume_decode_run(data: *const u8, length: usize, store: *mut u32, words: usize) -> Answer;
     fn latchplume_payload(data: *const u8, length: usize, descriptor: *const u32) -> Span;
+    fn latchplume_whole(data: *const u8, length: usize, descriptor: *const u32) -> Span;
     fn latchplume_list_word(data: *const u8, length: usize, start: usize, count: usize, n: usize) -> Listed;
     fn latchplume_next_segment(data: *const u8, length: usize, at: usize) -> Segment;
 }
@@ -276,6 +278,7 @@ const OTHER_CALLS: &str = "\
 latchplume_decoded (*const call_decode)(const uint8_t *, size_t, uint32_t *, size_t) = latchplume_decode;
 latchplume_answer (*const call_run)(const uint8_t *, size_t, uint32_t *, size_t) = latchplume_decode_run;
 latchplume_span (*const call_payload)(const uint8_t *, size_t, const uint32_t *) = latchplume_payload;
+latchplume_span (*const call_whole)(const uint8_t *, size_t, const uint32_t *) = latchplume_whole;
 latchplume_listed (*const call_word)(const uint8_t *, size_t, size_t, size_t, size_t) = latchplume_list_word;
 latchplume_segment (*const call_segment)(const uint8_t *, size_t, size_t) = latchplume_next_segment;
 ";
@@ -283,12 +286,13 @@ latchplume_segment (*const call_segment)(const uint8_t *, size_t, size_t) = latc
 /// C that compiles only where every declaration here is the header's.
 pub fn c_checks() -> String {
     let mut out = String::from("#include \"latchplume.h\"\n");
+    let _ = writeln!(out, "_Static_assert(LATCHPLUME_DESCRIPTOR_WORDS == {DESCRIPTOR_WORDS}, \"descriptor: words\");");
     c_structs(&mut out);
     c_readings(&mut out);
     out + OTHER_CALLS
 }
 
-// SAFETY, of all five: the pointers and lengths are those of slices that live through the call and do not overlap.
+// SAFETY, of all six: the pointers and lengths are those of slices that live through the call and do not overlap.
 
 pub fn decode(data: &[u8], store: &mut [u32]) -> Decoded {
     unsafe { latchplume_decode(data.as_ptr(), data.len(), store.as_mut_ptr(), store.len()) }
@@ -298,8 +302,12 @@ pub fn decode_run(data: &[u8], store: &mut [u32]) -> Answer {
     unsafe { latchplume_decode_run(data.as_ptr(), data.len(), store.as_mut_ptr(), store.len()) }
 }
 
-pub fn payload(data: &[u8], descriptor: &[u32; 6]) -> Span {
+pub fn payload(data: &[u8], descriptor: &Descriptor) -> Span {
     unsafe { latchplume_payload(data.as_ptr(), data.len(), descriptor.as_ptr()) }
+}
+
+pub fn whole(data: &[u8], descriptor: &Descriptor) -> Span {
+    unsafe { latchplume_whole(data.as_ptr(), data.len(), descriptor.as_ptr()) }
 }
 
 pub fn list_word(data: &[u8], start: usize, count: usize, n: usize) -> Listed {

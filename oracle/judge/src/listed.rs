@@ -3,7 +3,7 @@
 
 use crate::compare::theirs;
 use crate::fault::Library;
-use crate::shape::{AGGREGATION, MAX_DEPTH, MAX_INPUT};
+use crate::shape::{AGGREGATION, DESCRIPTOR_WORDS, MAX_DEPTH, MAX_INPUT};
 use crate::tally::{same, Checked, Tally};
 use crate::tree::*;
 
@@ -119,7 +119,7 @@ fn opened() -> Vec<Row> {
 }
 
 fn check_row(row: &Row, library: &Library) -> Checked {
-    let mut store = vec![0; row.input.len().min(4096) * 6];
+    let mut store = vec![0; row.input.len().min(4096) * DESCRIPTOR_WORDS];
     let ours = library.decode(&row.input, &mut store).answer;
     let run = library.decode_run(&row.input, &mut store);
     let name = |part: &str| format!("listed, {}: {part}", row.what);

@@ -1,5 +1,6 @@
-//! Document 01's reading, item by item, written from its text alone: what the crate cannot tell (positions, steps, starts, depth 9)
-//! comes from here, and whether an input lies in the domain of equality. Where the crate can tell, both are compared with it.
+//! Document 01's reading, with the first bytes of document 02's §6, item by item, written from their text alone: what the crate cannot
+//! tell (positions, steps, starts, first bytes, depth 9) comes from here, and whether an input lies in the domain of equality. Where the
+//! crate can tell, both are compared with it.
 
 use crate::shape::*;
 use crate::value::{sixteen, Value};
@@ -154,7 +155,7 @@ pub struct Reading {
     pub code: u32,
     pub at: usize,
     pub steps: usize,
-    pub store: Vec<[u32; 6]>,
+    pub store: Vec<Descriptor>,
     pub header: Vec<Value>,
     pub place: Place,
     pub opened: Vec<Opened>,
@@ -164,7 +165,7 @@ pub struct Reading {
 
 struct Reader<'a> {
     cursor: Cursor<'a>,
-    store: Vec<[u32; 6]>,
+    store: Vec<Descriptor>,
     header: Vec<Value>,
     place: Place,
     opened: Vec<Opened>,
@@ -177,14 +178,14 @@ impl<'a> Reader<'a> {
         Reader { cursor, store: Vec::new(), header: Vec::new(), place: Place::Header, opened: Vec::new(), at_limit: 0 }
     }
 
-    fn describe(&mut self, kind: u32, format: u32, start: usize, length: usize, parent: u32, depth: u32) -> u32 {
-        self.store.push([kind, format, start as u32, length as u32, parent, depth]);
+    fn describe(&mut self, descriptor: Descriptor) -> u32 {
+        self.store.push(descriptor);
         self.store.len() as u32 - 1
     }
 
     fn datagram(&mut self) -> Read<()> {
         let start = self.cursor.at;
-        let own = self.describe(DATAGRAM, 0, start, 0, NOBODY, 0);
+        let own = self.describe([DATAGRAM, 0, start as u32, 0, NOBODY, 0, start as u32]);
         self.place = Place::Header;
         self.header.clear();
         for shape in LAYOUTS[0].shapes {
@@ -200,9 +201,10 @@ impl<'a> Reader<'a> {
 
     fn sample(&mut self, parent: u32) -> Read<()> {
         self.place = Place::SampleFrame;
+        let first = self.cursor.at;
         let format = self.cursor.word()?;
         let (start, length) = self.cursor.opaque()?;
-        let own = self.describe(SAMPLE, format, start, length, parent, 0);
+        let own = self.describe([SAMPLE, format, start as u32, length as u32, parent, 0, first as u32]);
         self.inside(start, length, |reader| reader.sample_fields(format, own))
     }
 
@@ -240,7 +242,7 @@ impl<'a> Reader<'a> {
         }
         let format = self.cursor.word()?;
         let (start, length) = self.cursor.opaque()?;
-        let own = self.describe(kind, format, start, length, parent, depth);
+        let own = self.describe([kind, format, start as u32, length as u32, parent, depth, at as u32]);
         if only_the_crate_opens(kind, format) {
             self.opened.push(Opened { kind, format, at });
         }
@@ -264,9 +266,10 @@ impl<'a> Reader<'a> {
 
     fn pdu(&mut self, parent: u32, depth: u32) -> Read<()> {
         self.place = Place::PduCount;
+        let first = self.cursor.at;
         let count = self.cursor.word()?;
         let start = self.cursor.at;
-        let own = self.describe(PDU, 0, start, 0, parent, depth);
+        let own = self.describe([PDU, 0, start as u32, 0, parent, depth, first as u32]);
         for _ in 0..count {
             self.record(FLOW, own, depth + 1)?;
         }
@@ -325,8 +328,8 @@ pub fn decode_run(data: &[u8]) -> Reading {
 }
 
 /// What a field reading of this layout answers for a descriptor: code, position and steps, and the values, none on a refusal.
-pub fn fields(data: &[u8], descriptor: &[u32; 6], layout: &Layout) -> ((u32, usize, usize), Vec<Value>) {
-    let [kind, format, start, length, _, _] = *descriptor;
+pub fn fields(data: &[u8], descriptor: &Descriptor, layout: &Layout) -> ((u32, usize, usize), Vec<Value>) {
+    let [kind, format, start, length, ..] = *descriptor;
     let end = start as usize + length as usize;
     if data.len() > MAX_INPUT {
         return ((1, 0, 0), Vec::new());
@@ -346,6 +349,17 @@ pub fn fields(data: &[u8], descriptor: &[u32; 6], layout: &Layout) -> ((u32, usi
         }
     }
     ((0, cursor.at, cursor.steps), values)
+}
+
+/// Where all of what a descriptor stands for lies, from its first byte to the end of its pad: nothing where the input is too long or ends
+/// before that, or where its first byte is behind its start.
+pub fn whole(data: &[u8], descriptor: &Descriptor) -> (usize, usize) {
+    let [_, _, start, length, _, _, first] = descriptor.map(|word| word as usize);
+    let end = start + length.div_ceil(4) * 4;
+    if data.len() > MAX_INPUT || end > data.len() || first > start {
+        return (0, 0);
+    }
+    (first, end - first)
 }
 
 /// What is answered for the AS path segment at a position: code, position and steps; its type, and its list's start and count.

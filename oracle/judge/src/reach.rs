@@ -13,7 +13,7 @@ pub fn count(tally: &mut Tally, reading: &Reading, run: &Reading) {
         tally.reach(Key::Refusal(reading.code, reading.place));
     }
     tally.accepted += u64::from(reading.code == 0);
-    for [kind, format, _, _, _, depth] in &reading.store {
+    for [kind, format, _, _, _, depth, _] in &reading.store {
         match (*kind, layout_of(*kind, *format)) {
             (SAMPLE, Some(_)) => tally.reach(Key::Sample(*format)),
             (FLOW, Some(_)) => tally.reach(Key::Flow(*format)),
@@ -38,7 +38,7 @@ pub fn see(tally: &mut Tally, data: &[u8], reading: &Reading) {
         tally.reach(Key::Seen(BEHIND));
     }
     for descriptor in &reading.store {
-        let [kind, format, start, length, _, _] = *descriptor;
+        let [kind, format, start, length, ..] = *descriptor;
         let (end, pad) = ((start + length) as usize, length.wrapping_neg() as usize % 4);
         if matches!(kind, SAMPLE | FLOW | COUNTER) && data[end..end + pad].iter().any(|byte| *byte != 0) {
             tally.reach(Key::Seen(RUBBISH));
@@ -49,7 +49,7 @@ pub fn see(tally: &mut Tally, data: &[u8], reading: &Reading) {
     }
 }
 
-fn see_flow(tally: &mut Tally, data: &[u8], descriptor: &[u32; 6], layout: &Layout) {
+fn see_flow(tally: &mut Tally, data: &[u8], descriptor: &Descriptor, layout: &Layout) {
     let ((_, at, _), values) = paper::fields(data, descriptor, layout);
     if layout.format != AGGREGATION && at < (descriptor[2] + descriptor[3]) as usize {
         tally.reach(Key::Seen(LEFT));

@@ -1,4 +1,4 @@
-//! Document 01's layouts as one table, and which records the crate opens that document 01 keeps raw.
+//! Document 01's layouts as one table, a descriptor's words, and which records the crate opens that document 01 keeps raw.
 
 /// An item of a layout.
 #[derive(Clone, Copy, PartialEq, Debug)]
@@ -42,6 +42,10 @@ pub const MAX_INPUT: usize = 16_777_216;
 pub const MAX_OPAQUE: usize = 104_857_600;
 pub const MAX_DEPTH: u32 = 8;
 pub const NOBODY: u32 = u32::MAX;
+
+/// Kind, format, start, length, parent, depth, first byte.
+pub type Descriptor = [u32; DESCRIPTOR_WORDS];
+pub const DESCRIPTOR_WORDS: usize = 7;
 
 /// The last word of a sample's row is the count of its records; that of 1016 the count of its PDUs.
 pub const LAYOUTS: [Layout; 26] = [

@@ -1,10 +1,11 @@
 //! Inputs with their answers, for a program that replays them where no Rust is at hand: crates/replay. What the crate tells (acceptance,
 //! the kind of refusal, the header, each descriptor's kind, format, parent and depth, the payload of what is kept raw) is the crate's;
-//! positions, steps, ranges and depth 9 are document 01's reading. The library has no part in them.
+//! positions, steps, ranges, first bytes and depth 9 are document 01's reading. The library has no part in them.
 
 use crate::compare::{brought_inside, reading_of, theirs, Judge};
 use crate::make;
 use crate::paper::Reading;
+use crate::shape::DESCRIPTOR_WORDS;
 use crate::structure;
 use crate::tally::{same, Checked, Difference, Key, Tally};
 use crate::value::Value;
@@ -35,7 +36,7 @@ fn header(datagram: &SFlowDatagram) -> Vec<Value> {
 /// Whether the crate's structure is that of the descriptors.
 fn agrees(data: &[u8], reading: &Reading, datagrams: &[SFlowDatagram]) -> Checked {
     let nodes = structure::nodes(datagrams);
-    let ours: Vec<_> = reading.store.iter().map(|d| (d[0], d[1], d[4], d[5])).collect();
+    let ours: Vec<_> = reading.store.iter().map(|&[kind, format, _, _, parent, depth, _]| (kind, format, parent, depth)).collect();
     let crates: Vec<_> = nodes.iter().map(|node| (node.kind, node.format, node.parent, node.depth)).collect();
     same("document 01 and the crate: descriptors", &ours, &crates)?;
     for (descriptor, node) in reading.store.iter().zip(&nodes) {
@@ -85,11 +86,11 @@ fn put_header(line: &mut String, values: &[Value]) {
 }
 
 impl Case {
-    /// With room for all, or for one descriptor less than that; `spare` is how many words there are besides.
+    /// With room for all and `spare` words besides; or with too little, by one word up to those of a descriptor.
     fn new(data: &[u8], run: bool, enough: bool, spare: usize) -> Self {
-        let needed = reading_of(data, run).store.len();
-        let room = if enough { needed } else { needed.saturating_sub(1) };
-        Case { run, words: room * 6 + if room == needed { spare } else { spare % 6 }, data: data.to_vec() }
+        let all = reading_of(data, run).store.len() * DESCRIPTOR_WORDS;
+        let words = if enough || all == 0 { all + spare } else { all - 1 - spare % DESCRIPTOR_WORDS };
+        Case { run, words, data: data.to_vec() }
     }
 
     /// As the program reads it.
@@ -105,16 +106,16 @@ impl Case {
     pub fn line(&self) -> Result<String, Difference> {
         let Answer { reading, header } = agreed(&self.data, self.run)?;
         let needed = reading.store.len();
-        let lacks = reading.code == 0 && needed > self.words / 6;
+        let lacks = reading.code == 0 && needed > self.words / DESCRIPTOR_WORDS;
         let (code, at) = if lacks { (9, 0) } else { (reading.code, reading.at) };
         let (store, header) = if lacks { (&[][..], &[][..]) } else { (&reading.store[..], &header[..]) };
         let mut line = format!("{} code={code} at={at} steps={} needed={needed}", if self.run { "run" } else { "one" }, reading.steps);
         if !self.run {
             put_header(&mut line, header);
         }
-        let _ = write!(line, " kept={}", self.words - store.len() * 6);
-        for [kind, format, start, length, parent, depth] in store {
-            let _ = write!(line, "; {kind},{format},{start},{length},{parent},{depth}");
+        let _ = write!(line, " kept={}", self.words - store.len() * DESCRIPTOR_WORDS);
+        for [kind, format, start, length, parent, depth, first] in store {
+            let _ = write!(line, "; {kind},{format},{start},{length},{parent},{depth},{first}");
         }
         Ok(line + "\n")
     }
@@ -126,6 +127,8 @@ const TRIED: u64 = 200_000;
 const LONGEST: usize = 260;
 /// An input is taken where it reaches a format, code or class that fewer than so many before it reach.
 const EACH: usize = 14;
+/// The spare words of a store are fewer than this: from none to more than a descriptor's.
+const SPARE: usize = 12;
 
 /// The inputs that are taken, and what they reach.
 fn chosen(seed: u64) -> (Vec<Vec<u8>>, Tally) {
@@ -151,13 +154,13 @@ fn chosen(seed: u64) -> (Vec<Vec<u8>>, Tally) {
 pub fn cases(seed: u64, given: &[Vec<u8>]) -> (Vec<Case>, Tally) {
     let mut all = Vec::new();
     for (n, data) in given.iter().enumerate() {
-        all.extend([false, true].map(|run| Case::new(data, run, n % 8 != 7, n % 12)));
+        all.extend([false, true].map(|run| Case::new(data, run, n % 8 != 7, n % SPARE)));
     }
     let (inputs, tally) = chosen(seed);
     for (n, data) in inputs.iter().enumerate() {
         let one = reading_of(data, false);
         let several = one.code == 0 && one.at < data.len();
-        all.push(Case::new(data, several || n % 4 == 3, n % 8 != 5, n % 12));
+        all.push(Case::new(data, several || n % 4 == 3, n % 8 != 5, n % SPARE));
     }
     (all, tally)
 }

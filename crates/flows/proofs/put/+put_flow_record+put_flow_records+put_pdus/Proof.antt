@@ -102,6 +102,7 @@ ruleset putting = (
   placing.pdu-word,
   placing.pdu-start,
   placing.pdu-start32,
+  placing.pdu-first32,
   placing.pdu-next,
   placing.pdu-me,
   placing.pdu-more,
@@ -198,6 +199,7 @@ pub +put-flow-record+put-flow-records+put-pdus-spec : {M : Type 1} → statement
     (λ c. search putting)  -- put-pdus-cast-t25 put.rt:226:25
     (λ c. search putting)  -- put-pdus-sub-t26 put.rt:228:25
     (λ c. search putting)  -- put-pdus-cast-t27 put.rt:228:24
+    (λ c. search putting)  -- put-pdus-cast-t28
     (λ c κs. placing.pdu-own _ _ _ _ _ _ _ _ (c .before .before .before .before .before .before .before .loop .inv .1) (c .before .before .before .before .before .before .loop-test .taken) (c .before .before .before .before .before .be322 .ensures) (c .before .before .before .put-flow-records .ensures))  -- put-pdus-put-requires put.rt:219:9
     (λ c. search putting)  -- put-pdus-sub-rest put.rt:233:16
     (λ c. search putting)  -- put-pdus-loop-less put.rt:213:5

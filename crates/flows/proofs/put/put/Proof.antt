@@ -1,7 +1,7 @@
 use borrow.Author.Needs.{needs}
 use native.Mathlib.Omega.{arith}
 use lib.ListN.{length-set}
-use Rattle.reading.proofs.Stored.{write-six}
+use Rattle.reading.proofs.Stored.{write-seven}
 use Rattle.flows.proofs.put.put.Statement.{statement}
 use Rattle.flows.proofs.put.put.Tie as tie
 
@@ -27,6 +27,9 @@ put-spec =
     (λ c. search needs)  -- add-store-5 put.rt:47:11
     (λ c. search needs)  -- mul-store-6 put.rt:47:5
     (λ c. simp length-set (omega arith))  -- slice-write-store-6 put.rt:47:5
+    (λ c. search needs)  -- add-store-6
+    (λ c. search needs)  -- mul-store-7
+    (λ c. simp length-set (omega arith))  -- slice-write-store-7
     (λ c. search needs)  -- same-length put.rt:37:1
-    (λ c. write-six _ _ _ _ _ _ _ _)  -- returns put.rt:37:1
+    (λ c. write-seven _ _ _ _ _ _ _ _ _)  -- returns put.rt:37:1
     )

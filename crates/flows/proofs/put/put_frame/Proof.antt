@@ -11,10 +11,11 @@ put-frame-spec =
     (λ c. search needs)  -- add-be32 put.rt:58:32
     (λ c κs. search needs)  -- be32-requires-2 put.rt:58:9
     (λ c. search needs)  -- add-start put.rt:59:17
+    (λ c. search needs)  -- cast-count
+    (λ c κs. search needs)  -- padded-requires
     (λ c. search needs)  -- cast-t16 put.rt:67:20
+    (λ c. search needs)  -- cast-t17
     (λ c κs. search needs)  -- put-requires put.rt:61:5
-    (λ c. search needs)  -- cast-padded put.rt:74:34
-    (λ c κs. search needs)  -- padded-requires put.rt:74:21
     (λ c. search needs)  -- add-t19 put.rt:74:13
     (λ c. search needs)  -- add-t20 put.rt:75:15
     (λ c. search needs)  -- same-length put.rt:53:1
