@@ -81,12 +81,12 @@ entry w i k = getD w (row-words * i + k) 0
 unfoldable pub descriptor : (store : List ℕ) → (index : ℕ) → Range
 descriptor w i = record { kind = entry w i 0; format = entry w i 1; span = record { start = entry w i 2; count = entry w i 3 }; depth = entry w i 5; first = entry w i 6 }
 
--- past the first, and past other descriptors
-pub entry-past-one : (p : ℕ) (r : Range) (i : ℕ) (l : List ℕ) (k : ℕ) → entry (row-of p r ++ l) (suc i) k ≡ entry l i k
-entry-past-one p r i l k = ap (λ (n : ℕ). getD (row-of p r ++ l) n 0) {x = row-words * suc i + k} {y = suc (suc (suc (suc (suc (suc (suc (row-words * i + k)))))))} (omega arith)
-
+-- past other descriptors, and past the first
 pub entry-past : (l m : List ℕ) (n i : ℕ) → length l ≡ row-words * n → n ≤ i → (k : ℕ) → entry (l ++ m) i k ≡ entry m (i - n) k
 entry-past l m n i e h k = ap (λ (j : ℕ). getD (l ++ m) j 0) {x = row-words * i + k} {y = length l + (row-words * (i - n) + k)} (omega arith) ∙ getD-append-add l m (row-words * (i - n) + k) 0
+
+pub entry-past-one : (p : ℕ) (r : Range) (i : ℕ) (l : List ℕ) (k : ℕ) → entry (row-of p r ++ l) (suc i) k ≡ entry l i k
+entry-past-one p r i l k = entry-past (row-of p r) l 1 (suc i) refl (omega arith) k ∙ ap (λ (j : ℕ). entry l j k) {x = suc i - 1} {y = i} (omega arith)
 
 same : (v w : List ℕ) (i j : ℕ) → ((k : ℕ) → entry v i k ≡ entry w j k) → descriptor v i ≡ descriptor w j
 unfolding descriptor
