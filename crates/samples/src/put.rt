@@ -61,7 +61,8 @@ fn put_sample_flows(s: &[u8], at: usize, n: u32, store: &mut [u32], pen: Pen) ->
     if flat.rest == 0 {
         return next;
     }
-    put_flow_records(s, flat.at, flat.rest, 8, store, base, parent, next) % ABOVE
+    // Lent anew, so that its two words go to the stack only where there is a call.
+    put_flow_records(&*s, flat.at, flat.rest, 8, store, base, parent, next) % ABOVE
 }
 
 // What a sample of this format holds.

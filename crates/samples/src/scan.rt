@@ -71,7 +71,8 @@ fn flows_behind(s: &[u8], row: Run, last: usize, count: usize) -> Scanned
             if a.rest == 0 {
                 return Scanned::Got(cur, a.count);
             }
-            records::flow_records(s, cur, a.rest, 8, a.count)
+            // Lent anew, so that its two words go to the stack only where there is a call.
+            records::flow_records(&*s, cur, a.rest, 8, a.count)
         }
     }
 }
