@@ -26,6 +26,18 @@ static uint64_t ours(const struct input *in) {
     return library(in, in->store).needed;
 }
 
+#ifdef BEFORE
+/* The library of another build. */
+latchplume_decoded before_latchplume_decode(const uint8_t *data, size_t length, uint32_t *store, size_t words);
+latchplume_answer before_latchplume_decode_run(const uint8_t *data, size_t length, uint32_t *store, size_t words);
+
+static uint64_t before(const struct input *in) {
+    if (in->run)
+        return before_latchplume_decode_run(in->data, in->length, in->store, in->words).needed;
+    return before_latchplume_decode(in->data, in->length, in->store, in->words).answer.needed;
+}
+#endif
+
 static uint64_t walk(const struct input *in) {
     return walked(in, in->store).needed;
 }
@@ -86,6 +98,9 @@ static uint64_t standard(const struct input *in) {
 
 const struct contestant CONTESTANTS[] = {
     {"ours", ours}, {"fields", fields}, {"crate", crate}, {"walk", walk}, {"floor", floor_sum}, {"std", standard},
+#ifdef BEFORE
+    {"before", before},
+#endif
 };
 const size_t CONTESTANTS_COUNT = sizeof CONTESTANTS / sizeof *CONTESTANTS;
 

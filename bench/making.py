@@ -58,11 +58,16 @@ def compiled(name, sources, libraries, options=()):
     return path
 
 
-def measure():
+def measure(before=None):
+    """The program that measures; with `before`, the path of another build's library, it has that as a contestant too."""
     tools = [os.path.join(ROOT, "tools", name) for name in ("layouts.c", "names.c")]
     sources = [at(name) for name in ("measure.c", "contestants.c", "walk.c")]
     libraries = [library(), os.path.join(crate(), "libbench_crate.a"), "-lpthread", "-ldl", "-lm", "-Wl,-z,now"]
-    return compiled("measure", sources + tools, libraries, RELEASE)
+    if before is None:
+        return compiled("measure", sources + tools, libraries, RELEASE)
+    other = made("before", "libhost.a")
+    output(["objcopy", "--prefix-symbols=before_", before, other], f"objcopy {before}")
+    return compiled("measure-against", sources + tools, [other, *libraries], ["-DBEFORE", *RELEASE])
 
 
 def feed():

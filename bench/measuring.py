@@ -20,13 +20,18 @@ def ran(words, case):
     return done
 
 
+def rounds(program, case, names, count=ROUNDS):
+    """So many rounds, each with the nanoseconds for one unit of every contestant."""
+    lines = ran([program, str(count), *names], case).stdout.decode().split("\n")[:-1]
+    found = [[float(word) for word in line.split()] for line in lines]
+    if len(found) != count or any(len(one) != len(names) for one in found):
+        raise making.Failed(f"case {case.name}: the measurement ended early")
+    return found
+
+
 def times(program, case, names):
     """The median over the rounds, in nanoseconds for one unit, by contestant."""
-    lines = ran([program, str(ROUNDS), *names], case).stdout.decode().split("\n")[:-1]
-    rounds = [[float(word) for word in line.split()] for line in lines]
-    if len(rounds) != ROUNDS or any(len(one) != len(names) for one in rounds):
-        raise making.Failed(f"case {case.name}: the measurement ended early")
-    return dict(zip(names, map(median, zip(*rounds))))
+    return dict(zip(names, map(median, zip(*rounds(program, case, names)))))
 
 
 def instructions(program, case, name):
