@@ -74,6 +74,7 @@ pub fn put_datagram(s: &[u8], at: usize, store: &mut [u32], base: u32) -> Writte
                     next: 1,
                 },
             );
+            let start = at as u32;
             let end = w.at;
             put(
                 store,
@@ -81,11 +82,11 @@ pub fn put_datagram(s: &[u8], at: usize, store: &mut [u32], base: u32) -> Writte
                 Descriptor {
                     kind: 0,
                     format: DataFormat(0),
-                    start: at as u32,
+                    start: start,
                     length: (end - at) as u32,
                     parent: 4294967295,
                     depth: 0,
-                    first: at as u32,
+                    first: start,
                 },
             );
             w

@@ -1,4 +1,4 @@
-// Field reading, for C: a call for each layout, which takes the input and a descriptor's six words.
+// Field reading, for C: a call for each layout, which takes the input and a descriptor's words.
 ghost use mathlib.Core.Path.{_≡_};
 ghost use Rattle.xdr.specs.Shown.{answer-of};
 ghost use Rattle.datagram.specs.Shown.{header-fields};

@@ -15,7 +15,6 @@ put-datagram-spec =
     (λ c. search judging)  -- cast-t21 one.rt:84:28
     (λ c. search judging)  -- sub-t13 one.rt:85:30
     (λ c. search judging)  -- cast-t22 one.rt:85:29
-    (λ c. search judging)  -- cast-t23
     (λ c κs. search judging)  -- put-requires one.rt:78:13
     (λ c. search judging)  -- returns one.rt:55:1
     (λ c. search judging)  -- same-length one.rt:55:1
