@@ -104,7 +104,7 @@ orderly-opened (counts {g} {l} {body} o t) f =
 orderly-framed : (kind depth : ℕ) (body : ℕ → Script) → 0 < kind → ((f : ℕ) → Orderly inside (follow (body f))) → Orderly inside (follow (framed kind depth body))
 orderly-framed kind depth body z o s p a q h e = go (frame-read kind depth body s p e)
   where
-    leads : (f : Frame kind depth body s p a q) → p .at + 4 ≤ f .span .start
+    leads : (f : Frame kind depth body s p a q) → p .at + 8 ≤ f .span .start
     leads f = omega (arith, f .start)
 
     at-end : (f : Frame kind depth body s p a q) → last (f .span) ≤ q .at
@@ -117,7 +117,7 @@ orderly-framed kind depth body z o s p a q h e = go (frame-read kind depth body 
         let j = onward (body (f .format)) _ (place (f .span .start) (f .steps)) i (f .held) in
         let n = o (f .format) _ (place (f .span .start) (f .steps)) (f .inner) (f .last) i (f .held) in
         subst (λ (b : Found). Nested inside (p .at) (q .at) (b .ranges)) (sym (f .found))
-        (next z (le-refl _) (leads f) (later (end (f .span)) (omega (arith, l, j .1)) n) (none (at-end f)))
+        (next z (le-refl _) (omega (arith, leads f)) (later (end (f .span)) (omega (arith, l, j .1)) n) (none (at-end f)))
 
 -- from where it begins to where it ends, which is whole words, with its first byte at o
 spanned : {v : Level} {a e : ℕ} {f : Forest} (kind format depth o : ℕ) → Kind-at v kind → Led v (record { kind = kind; format = format; span = between a e; depth = depth; first = o }) → Words a e
