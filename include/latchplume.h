@@ -59,7 +59,7 @@ enum latchplume_code {
     LATCHPLUME_ADDRESS_TYPE = 4,    /* address type above 2: the type word */
     LATCHPLUME_OPAQUE_LENGTH = 5,   /* opaque length above 104,857,600: the length word */
     LATCHPLUME_HEADER_PROTOCOL = 6, /* header protocol unknown to `HeaderProtocol`, which knows 1 to 17: the protocol word */
-    LATCHPLUME_NOT_UTF8 = 7,        /* string is not UTF-8: the length word */
+    LATCHPLUME_NOT_UTF8 = 7,        /* string is not UTF-8: the first byte of the first ill-formed sequence */
     LATCHPLUME_DEPTH = 8,           /* a record would begin at depth 9: where it would begin */
     LATCHPLUME_NO_ROOM = 9,         /* all else accepted, but the store holds fewer than needed; `needed` is given */
     LATCHPLUME_RANGE = 10,          /* field reading: range passes the input */

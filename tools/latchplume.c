@@ -1,5 +1,6 @@
 /* The command: lists the sFlow datagrams of a file, shows them as a tree, or cuts a record out. */
 #include "cut.h"
+#include "fault.h"
 #include "input.h"
 #include "packets.h"
 #include "show.h"
@@ -46,6 +47,7 @@ struct work {
     uint32_t *store;
     size_t words;
     unsigned long number; /* of the datagram that is shown */
+    unsigned long packet; /* of a capture, from 1 on */
     int status;
 };
 
@@ -71,16 +73,42 @@ static void print_listing(struct work *w, const latchplume_answer *a)
     }
 }
 
+/* Where a string goes bad in the datagram from `from` on: the listing has a form of its own, so the words go to standard error. */
+static void say_fault(const struct work *w, const uint8_t *data, size_t length, size_t from, size_t at)
+{
+    struct fault fault;
+    char packet[40] = "", said[sizeof fault + 100];
+    fault_find(&fault, data, length, from, at);
+    if (w->packet)
+        snprintf(packet, sizeof packet, "packet %lu, ", w->packet);
+    snprintf(said, sizeof said, "a string is not UTF-8 at %zu, in %s%s: expected %s", at, packet, fault.where, fault.expected);
+    input_trouble(w->file, said);
+}
+
 static void list(struct work *w, const uint8_t *data, size_t length)
 {
     latchplume_decoded got = latchplume_decode(data, length, w->store, w->words);
     print_listing(w, &got.answer);
+    if (got.answer.code == LATCHPLUME_NOT_UTF8)
+        say_fault(w, data, length, 0, got.answer.at);
+}
+
+/* Where the datagram begins that a run is refused in. */
+static size_t refused_from(struct work *w, const uint8_t *data, size_t length)
+{
+    size_t from = 0;
+    latchplume_answer got = {0};
+    for (; got.code == LATCHPLUME_ACCEPTED; from += got.code == LATCHPLUME_ACCEPTED ? got.at : 0)
+        got = latchplume_decode(data + from, length - from, w->store, w->words).answer;
+    return from;
 }
 
 static void list_run(struct work *w, const uint8_t *data, size_t length)
 {
     latchplume_answer got = latchplume_decode_run(data, length, w->store, w->words);
     print_listing(w, &got);
+    if (got.code == LATCHPLUME_NOT_UTF8)
+        say_fault(w, data, length, refused_from(w, data, length), got.at);
 }
 
 /* One datagram; its length, or 0 where it is refused. */
@@ -133,6 +161,7 @@ static void take_packet(void *who, const struct packet *one)
     printf("packet %lu", one->number);
     if (one->state == WHOLE) {
         putchar('\n');
+        w->packet = one->number;
         w->each(w, one->data, one->length);
         return;
     }

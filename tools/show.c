@@ -1,5 +1,6 @@
 #include "show.h"
 
+#include "fault.h"
 #include "names.h"
 #include "text.h"
 
@@ -76,6 +77,16 @@ bool show_datagram(const struct shown *s, unsigned long number, const uint32_t *
     return all;
 }
 
+static void string_fault(const struct shown *s, size_t from, size_t at)
+{
+    struct fault fault;
+    fault_find(&fault, s->data, s->length, from, at);
+    text_indent(1);
+    printf("in: %s\n", fault.where);
+    text_indent(1);
+    printf("expected: %s\n", fault.expected);
+}
+
 void show_refusal(const struct shown *s, unsigned long number, size_t from, const latchplume_answer *answer)
 {
     printf("datagram %lu: refused: code %" PRIu32 ": %s\n", number, answer->code, name_of_code(answer->code));
@@ -83,6 +94,8 @@ void show_refusal(const struct shown *s, unsigned long number, size_t from, cons
     printf("position: %zu, after %zu items that were read\n", from + answer->at, answer->steps);
     if (answer->code == LATCHPLUME_INPUT_LENGTH)
         return;
+    if (answer->code == LATCHPLUME_NOT_UTF8)
+        string_fault(s, from, from + answer->at);
     uint32_t start = (uint32_t)from, length = (uint32_t)(s->length - from);
     uint32_t all[LATCHPLUME_DESCRIPTOR_WORDS] = {LATCHPLUME_DATAGRAM, 0, start, length, LATCHPLUME_NOBODY, 0, start};
     if (latchplume_read_header(s->data, s->length, all).outcome.code == LATCHPLUME_ACCEPTED)

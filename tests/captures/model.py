@@ -52,8 +52,8 @@ class Reader:
             raise Refused(5, self.at)
         if start + length + pads(length) > end:
             raise Refused(2, self.at)
-        if text and not is_utf8(self.data[start:start + length]):
-            raise Refused(7, self.at)
+        if text:
+            well_formed(self.data[start:start + length], start)
         self.item(4 + length + pads(length), end)
         return start, length
 
@@ -145,12 +145,12 @@ class Reader:
         self.rows[0] = (0, 0, 0, self.at, NOBODY, 0, 0)
 
 
-def is_utf8(text):
+def well_formed(text, start):
+    """Refuses a text where Python's own decoder finds it ill-formed; its first byte is at `start`."""
     try:
         text.decode()
-        return True
-    except UnicodeDecodeError:
-        return False
+    except UnicodeDecodeError as fault:
+        raise Refused(7, start + fault.start) from None
 
 
 def read(data, fault=None):

@@ -112,7 +112,7 @@ def inputs(tool, rng):
         yield data, int(re.match(r"code=(\d+)", answer).group(1))
     for name in ("header", "extended_router", "sampled_header", "extended_80211_rx"):
         wire, _, body, base, _ = library_checks.wire_of(rng, name, 1)
-        for _, offset, code, raw in body.faults:
+        for _, offset, code, raw, _ in body.faults:
             yield bytes(library_checks.spoiled(wire, base, offset, raw)), code
 
 

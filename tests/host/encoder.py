@@ -60,6 +60,27 @@ class Span:
         self.start, self.count = start, count
 
 
+# Sequences that RFC 3629's table has not, each as it begins a string; a shorter string ends in the middle of one.
+NO_CHARACTERS = [bytes.fromhex(text) for text in ("ff", "80", "c0 af", "e2 28 a1", "e0 80 80", "ed a0 80", "f0 8f bf bf", "f4 90 80 80", "c3", "f0 9f 98", "e2 82 41")]
+
+
+def ill_formed(value, rng):
+    """Two texts of as many bytes that are not UTF-8: at the end, and somewhere."""
+    yield value[:-1] + b"\xff"
+    bad, at = rng.choice(NO_CHARACTERS), rng.randrange(len(value))
+    text = (value[:at] + bad + value[at:])[:len(value)]
+    if goes_bad(text) is not None:
+        yield text
+
+
+def goes_bad(text):
+    """The first byte of the first sequence that is no character, by Python's own decoder."""
+    try:
+        text.decode()
+    except UnicodeDecodeError as fault:
+        return fault.start
+
+
 class Body:
     """The bytes of one layout, the items that they are, the values of its fields, and where an item can be spoiled, and how."""
 
@@ -76,9 +97,9 @@ class Body:
         self.items.append((len(self.data), len(self.data) + len(raw)))
         self.data += raw
 
-    def fault(self, code, raw):
-        """The item that comes next is refused with this code where these are its first bytes."""
-        self.faults.append((len(self.items), len(self.data), code, raw))
+    def fault(self, code, raw, on=0):
+        """The item that comes next is refused with this code where these are its first bytes: so many bytes behind its first."""
+        self.faults.append((len(self.items), len(self.data), code, raw, len(self.data) + on))
 
     def number(self, field, bits=32):
         return self.given.get(field, self.rng.getrandbits(bits))
@@ -148,8 +169,8 @@ class Body:
 
     def string(self, field):
         value = self.given.get(field, self.rng.choice(WORDS_OF_NAMES)).encode()
-        if value:
-            self.fault(7, word(len(value)) + value[:-1] + b"\xff")
+        for bad in ill_formed(value, self.rng) if value else ():
+            self.fault(7, word(len(value)) + bad, 4 + goes_bad(bad))
         self.given[field] = value
         return self.opaque(field)
 

@@ -145,8 +145,8 @@ def faults(s, rng):
     for name in ["header", *SAMPLES, *RECORDS]:
         for turn in range(6):
             wire, row, body, base, steps = wire_of(rng, name, (1, 2, 8)[turn % 3])
-            for item, offset, code, raw in body.faults:
-                data, at = spoiled(wire, base, offset, raw), base + offset
+            for item, offset, code, raw, bad in body.faults:
+                data, at = spoiled(wire, base, offset, raw), base + bad
                 s.data(data)
                 s.refused(6000, code, at, steps + item)
                 s.read_refused(body, wire.rows[row], code, at, item)

@@ -9,6 +9,7 @@ import unicodedata
 import building
 import captures
 import encoder
+import fault_checks
 import trees
 
 # a datagram without samples, and its listing
@@ -63,6 +64,12 @@ def damaged(data, rng):
     return bytes(data)
 
 
+def same_listing(tool, what, expected, *words, **how):
+    """What is printed, the status, and whether there are words beside it: a string's fault has some."""
+    status, out, said = tool.run(*words, **how)
+    tool.checks.same(f"latchplume {' '.join(words)}: {what}", (status_of(expected), expected, expected.startswith("code=7 ")), (status, out, said != ""))
+
+
 def against_the_listing(tool, rng):
     """list and run print what the proved programs print."""
     all_real = list(real())
@@ -71,13 +78,13 @@ def against_the_listing(tool, rng):
     for what, data in inputs:
         if len(data) <= 8192 and data:
             expected = listed("listing", data)
-            tool.same(what, (status_of(expected), expected, ""), "list", tool.file("one", data))
+            same_listing(tool, what, expected, "list", tool.file("one", data))
     for _ in range(12):
         data = b"".join(one for _, one in rng.sample(all_real, 3))
         data = data if rng.random() < 0.5 else damaged(data, rng)
         expected = listed("listing_run", data)
-        tool.same("a run", (status_of(expected), expected, ""), "run", tool.file("several", data))
-        tool.same("a run through a pipe", (status_of(expected), expected, ""), "run", "-", data=data)
+        same_listing(tool, "a run", expected, "run", tool.file("several", data))
+        same_listing(tool, "a run through a pipe", expected, "run", "-", data=data)
 
 
 def real_shown(tool):
@@ -135,12 +142,12 @@ def refusals(tool, rng):
     """show says what is wrong and marks the byte, for each code that a datagram can be refused with."""
     for name in ("header", "extended_router", "sampled_header", "extended_80211_rx"):
         wire, _, body, base, steps = trees.wire_of(rng, name)
-        for item, offset, code, raw in body.faults:
+        for item, offset, code, raw, bad in body.faults:
             data = bytearray(wire.data)
             data[base + offset:base + offset + len(raw)] = raw
             status, out, said = tool.run("show", tool.file("bad", data))
             tool.checks.same(f"show code {code}", (1, ""), (status, said))
-            trees.refusal_shown(tool.checks, out, data, code, base + offset, steps + item)
+            trees.refusal_shown(tool.checks, out, data, code, base + bad, steps + item)
     trees.refusal_shown(tool.checks, tool.run("show", tool.file("bad", SHORT[:22]))[1], SHORT[:22], 2, 20, 5)
     trees.refusal_shown(tool.checks, tool.run("show", tool.file("bad", SHORT[:16]))[1], SHORT[:16], 2, 16, 4)
     left = tool.run("show", tool.file("bad", SHORT + b"abc"))
@@ -295,6 +302,6 @@ def check_all(checks, room):
     tool = Tool(checks, room, building.made("latchplume-checked"))
     for part in (real_shown, troubles, usages, cut_troubles):
         part(tool)
-    for part in (refusals, trees_shown, cuts, cuts_read_back, nothing_raw, long_fields):
+    for part in (refusals, fault_checks.check, trees_shown, cuts, cuts_read_back, nothing_raw, long_fields):
         part(tool, rng)
     the_script(checks, room)

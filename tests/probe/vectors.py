@@ -5,8 +5,8 @@ usage: vectors.py           writes crates/probe/stdin and crates/probe/stdout
        vectors.py --check   fails where the stored files are not what this script makes
        vectors.py --list    prints each vector's name with its line
 
-No code of ours has a part in the expected lines: numbers are struct's, the verdict on UTF-8 is Python's strict decoder, and
-positions, steps and codes are written out below from document 01.
+No code of ours has a part in the expected lines: numbers are struct's, the verdict on UTF-8 and where it goes bad are Python's
+strict decoder's, and other positions, steps and codes are written out below from document 01.
 
 A vector is stored as four bytes, the item's letter, a count (of words, for a run of them), where the cursor starts and how many
 bytes follow; and those bytes. The file ends in a vector that announces more bytes than there are."""
@@ -54,8 +54,8 @@ def opaque(data, at, is_string):
     if is_string:
         try:
             payload.decode('utf-8', 'strict')
-        except UnicodeDecodeError:
-            raise Refused(7, at, 0)
+        except UnicodeDecodeError as fault:
+            raise Refused(7, at + 4 + fault.start, 0)
     return ' start=%d count=%d' % (at + 4, n), at + 4 + n + pad, 1
 
 

@@ -1,9 +1,11 @@
 -- The test for UTF-8 takes exactly what RFC 3629's ABNF takes. Assumes nothing.
-use Prim.Native.Nat.{ℕ, _≤_}
+use Prim.Native.Nat.{ℕ, _≤_, _<_}
 use mathlib.Core.Path.{_≡_, refl, ap}
 use mathlib.Core.Bool.{Bool, true, false}
 use mathlib.Core.List.{List, [], _∷_, _++_}
+use native.Mathlib.Omega.{arith}
 use borrow.Author.Tests.{le-leb}
+use lib.ListN.{length}
 use Rattle.reading.specs.Utf8.{_&_, _or_, among, tail, utf8-1, utf8-2, utf8-3, utf8-4, utf8}
 use Rattle.reading.proofs.Utf8.{among-bounds}
 use Rattle.reading.proofs.Faults.{both}
@@ -115,6 +117,13 @@ pass-3 a b c (d ∷ s) e f = third-holds (utf8-1 a & utf8 (b ∷ c ∷ d ∷ s))
 pass-4 : (a b c d : ℕ) (y : List ℕ) → utf8-4 a b c d ≡ true → utf8 y ≡ true → utf8 (a ∷ b ∷ c ∷ d ∷ y) ≡ true
 unfolding utf8
 pass-4 a b c d y e f = fourth-holds (utf8-1 a & utf8 (b ∷ c ∷ d ∷ y)) (utf8-2 a b & utf8 (c ∷ d ∷ y)) (utf8-3 a b c & utf8 (d ∷ y)) (and e f)
+
+-- a character has a byte
+pub char-bytes : {x : List ℕ} → UTF8-char x → 0 < length x
+char-bytes (first (byte b h k)) = omega arith
+char-bytes (second (first (joined (byte b h k) t))) = omega arith
+char-bytes (second (second (first t))) = let r = of-rule-3 t in rw (r .3) (omega arith)
+char-bytes (second (second (second t))) = let r = of-rule-4 t in rw (r .4) (omega arith)
 
 char-passes : {x : List ℕ} (y : List ℕ) → UTF8-char x → utf8 y ≡ true → utf8 (x ++ y) ≡ true
 char-passes y (first (byte a p q)) f = pass-1 a y (in-range 0x00 0x7f a p q) f

@@ -4,9 +4,9 @@ use Prim.Native.Nat.{ℕ, _*_, _/_, _≤_, _<_}
 use mathlib.Core.Path.{_≡_}
 use mathlib.Core.Logic.{_↔_}
 use mathlib.Core.Bool.{true}
-use mathlib.Core.List.{List}
+use mathlib.Core.List.{List, _++_}
 use lib.ListN.{length, take, drop}
-use Rattle.reading.specs.Utf8.{utf8}
+use Rattle.reading.specs.Utf8.{utf8, Longest}
 use Rattle.reading.specs.Script.{Forest, Found}
 use Rattle.reading.specs.Grammar.{Is}
 use Rattle.reading.specs.Layout.{depth-limit, datagram-to, datagram}
@@ -29,8 +29,9 @@ use Rattle.demands.specs.FieldsItemised.{Fields-itemised}
 use Rattle.demands.proofs.FieldsItemised.{fields-itemised}
 use Rattle.demands.proofs.Calls.{Call, Public, kept, quartered, never-for-room, placed, too-long, whole-there}
 use Rattle.demands.proofs.Impostors.{Equals, p2, refuses-all, answers-p2, writes-nothing, own-steps, run-invents}
-use Rattle.demands.specs.Abnf.{UTF8-octets}
+use Rattle.demands.specs.Abnf.{UTF8-char, UTF8-octets}
 use Rattle.demands.proofs.Characters.{test-by-rules, rules-by-test}
+use Rattle.demands.proofs.IllFormed.{well-before, none-longer, no-char-there}
 
 -- ==== of both calls, for every input and every store
 module _ {c : Call} (p : Public c) (s w : List ℕ) where
@@ -196,6 +197,18 @@ depth-is-the-limit o b f k = (λ (n, i, z). same-reading n depth-limit o b f k i
 
 pub strings-are-utf8 : (s : List ℕ) → (utf8 s ≡ true) ↔ UTF8-octets s
 strings-are-utf8 s = (test-by-rules s, λ t. rules-by-test t)
+
+-- ==== where a string is ill-formed (`IllFormed`): `Stops` gives code 7 behind its longest well-formed beginning, of n bytes. By the ABNF these are
+-- well-formed, no longer beginning is, and no character begins behind them
+module _ {x : List ℕ} {n : ℕ} (l : Longest x n) where
+  pub well-formed-before : UTF8-octets (take n x)
+  well-formed-before = well-before l
+
+  pub no-longer-beginning : (m : ℕ) → n < m → m ≤ length x → UTF8-octets (take m x) → ⊥
+  no-longer-beginning = none-longer l
+
+  pub ill-formed-there : (u v : List ℕ) → drop n x ≡ u ++ v → UTF8-char u → ⊥
+  ill-formed-there = no-char-there l
 
 -- ==== the impostors (`Impostors`): a call that answers what the definitions say does none of these
 module _ (f : Call) where

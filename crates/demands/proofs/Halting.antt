@@ -6,14 +6,14 @@ use mathlib.Core.List.{List, [], _++_}
 use native.Mathlib.Omega.{arith}
 use lib.ListN.{length, take}
 use lib.Seq.{length-take-le}
-use Rattle.reading.specs.Script.{Span, Value, Found, Item, Script, item, within, repeat}
+use Rattle.reading.specs.Script.{Span, Value, Found, Item, string, Script, item, within, repeat}
 use Rattle.reading.specs.Cursor.{Place, Out, got, stop, read-opaque, read-item, times, inside, follow}
 use Rattle.reading.specs.Grammar.{Opaque, Is}
 use Rattle.reading.proofs.Stands.{place, Stands, opaque-there, payload-there, bytes-there, drop-take, held, front}
 use Rattle.reading.proofs.Complete.{complete-item, complete-many, complete}
-use Rattle.demands.specs.Stops.{Stops, barred, standing, no-item, past-item, no-opaque, inside-it, past-it, among, past-all}
+use Rattle.demands.specs.Stops.{Stops, barred, standing, no-item, not-text, past-item, no-opaque, inside-it, past-it, among, past-all}
 use Rattle.demands.proofs.Opened.{begins}
-use Rattle.demands.proofs.Stopping.{Left, part-stands, left-behind, opaque-missing, item-missing, many-stop}
+use Rattle.demands.proofs.Stopping.{Left, part-stands, left-behind, opaque-missing, item-missing, string-ill, many-stop}
 
 -- the same refusal, counted in two ways
 same : {A : Type 0} (c a m n : ℕ) → m ≡ n → _≡_ {A = Out A} (stop c a m) (stop c a n)
@@ -70,6 +70,7 @@ unfolding follow
 halting {o = o} {c} {a} {n} (barred {c = d} e f g) s k h = at-once d c a o k n e f g
 halting (standing m) s k h = halting m s k h
 halting {o = o} {c} {a} {n} (no-item {i} {k = j} m e f) s k h = none-here s (place o k) i j (item-missing h k m ∙ at-once c c a o k n refl e f)
+halting {o = o} {c} {a} {n} (not-text {k = j} x i q l g z e f) s k h = none-here s (place o k) string j (string-ill h k q l g ∙ at-once 7 c a (o + 4 + i) k n z e f)
 halting {o = o} {c} {a} {n} (past-item {i} {k = j} x y v m e f ix t) s k h =
     past-an-item s (place o k) i j (complete-item i o k ix (part-stands x y e h)) (halting t s (k + 1) (left-behind x y e h) ∙ same c a (k + 1 + m) (k + n) (omega arith))
 halting {o = o} {c} {a} {n} (no-opaque {body} {k = j} m e f) s k h = no-opaque-here s (place o k) body j (opaque-missing h k m ∙ at-once c c a o k n refl e f)

@@ -24,4 +24,5 @@ pub mod AcceptedFields
 pub mod Calls
 pub mod Impostors
 pub mod Characters
+pub mod IllFormed
 pub mod Demands

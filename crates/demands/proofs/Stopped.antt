@@ -13,9 +13,9 @@ use Rattle.reading.proofs.Items.{never}
 use Rattle.reading.proofs.Stands.{place, Stands}
 use Rattle.reading.proofs.Sound.{sound}
 use Rattle.reading.proofs.SoundRows.{Read, sound-many}
-use Rattle.demands.specs.Stops.{Stops, barred, standing, no-item, past-item, no-opaque, inside-it, past-it, among, past-all}
+use Rattle.demands.specs.Stops.{Stops, barred, standing, no-item, not-text, past-item, no-opaque, inside-it, past-it, among, past-all}
 use Rattle.demands.proofs.Opened.{opens}
-use Rattle.demands.proofs.Pieces.{behind, Item-there, item-there, stop-as, opaque-short, item-short}
+use Rattle.demands.proofs.Pieces.{behind, Item-there, item-there, stop-as, opaque-short, Short, missing, ill, item-short}
 use Rattle.demands.proofs.Enclosed.{Span-there, span-there, held, held-is, held-fits, some}
 
 -- the script stops at p, where the rest of s is left; n counts the steps before p and the items behind it
@@ -34,6 +34,11 @@ moved {sc} {o} {i} {c} {a} {n} {b} {d} e f h = subst (λ (j : ℕ). Stops sc j d
 next : {sc : Script} {s x y : List ℕ} {q : Place} {c a n : ℕ} (o : ℕ) → Stands s o x y → q .at ≡ o + length x → (h : Stopped sc s q c a n) → Stops sc (o + length x) y c a (h .items)
 next {s = s} o st e h = moved e (ap (λ (j : ℕ). drop j s) e ∙ behind o st) (h .stops)
 
+-- an item that is refused
+short : {i : Item} (k : Value → Script) {s : List ℕ} {p : Place} {c a n : ℕ} → Short s p c a n i → Stopped (item i k) s p c a n
+short k (missing r) = record { items = 0; steps = r .steps ∙ sym (add-zero _); stops = no-item (r .why) (r .at) refl }
+short k (ill x j q l g z y w) = record { items = 0; steps = w ∙ sym (add-zero _); stops = not-text x j q l g z y refl }
+
 -- each form of a script, given that the scripts in it halt so
 module _ (i : Item) (k : Value → Script) (ih : (v : Value) → Halts (k v)) where
   item-past : {v : Value} {q : Place} {s : List ℕ} {p : Place} {c a n : ℕ} → Item-there i s p v q → Stopped (k v) s q c a n → Stopped (item i k) s p c a n
@@ -50,9 +55,7 @@ module _ (i : Item) (k : Value → Script) (ih : (v : Value) → Halts (k v)) wh
     where
       go : (o : Out Value) → read-item i s p ≡ o → then o (λ v q. follow (k v) s q) ≡ stop c a n → Stopped (item i k) s p c a n
       go (got v q) f e = let t = item-there i s p v q f in item-past t (ih v s q c a n (rw (t .at) (t .stands .fits)) e)
-      go (stop d b m) f e =
-          let r = item-short s p h i (f ∙ stop-as e) in
-          record { items = 0; steps = r .steps ∙ sym (add-zero _); stops = no-item (r .why) (r .at) refl }
+      go (stop d b m) f e = short k (item-short s p h i (f ∙ stop-as e))
 
 module _ (body : Script) (k : Span → Found → Script) (inner : Halts body) (ih : (x : Span) (a : Found) → Halts (k x a)) where
   within-in : {s : List ℕ} {p q : Place} {x : Span} {c a n : ℕ} (t : Span-there s p x q)

@@ -13,13 +13,17 @@ use Rattle.reading.specs.Layout.{datagram}
 use Rattle.reading.proofs.Stands.{drop-take}
 use Rattle.reading.proofs.Faults.{fair-item, test-code, Coded, refuses, stands, reads, opens, repeats}
 use Rattle.reading.proofs.Codes.{coded-datagram}
-use Rattle.demands.specs.Stops.{No-opaque, no-length, too-long, cut, Opens, No-item, no-word, no-tested, failed, no-long, no-int, no-block, no-part, no-string, not-utf8, Stops, barred, standing, no-item, past-item, no-opaque, inside-it, past-it, among, past-all}
+use Rattle.demands.specs.Stops.{No-opaque, no-length, too-long, cut, Opens, No-item, no-word, no-tested, failed, no-long, no-int, no-block, no-part, no-string, Stops, barred, standing, no-item, not-text, past-item, no-opaque, inside-it, past-it, among, past-all}
 
 -- a reading stops no sooner than it starts, and no later than what encloses it ends
 pub spans : {sc : Script} {o c a n : ℕ} {b : List ℕ} → Stops sc o b c a n → (o ≤ a) × (a ≤ o + length b)
 spans (barred e f g) = (omega arith, omega arith)
 spans (standing t) = spans t
 spans (no-item m e f) = (omega arith, omega arith)
+spans (not-text x j q l g z e f) =
+    let r = ap length (q .joined) ∙ length-append (q .size) (x ++ q .rest) in
+    let k = length-append x (q .rest) in
+    (omega arith, omega (arith, r, k, q .four))
 spans (past-item x y v m e f ix t) = let r = spans t in let l = ap length e ∙ length-append x y in (omega (arith, r .0), omega (arith, r .1, l))
 spans (no-opaque m e f) = (omega arith, omega arith)
 spans (inside-it x m f q t) =
@@ -46,7 +50,6 @@ item-not-8 (no-int l e) h z = omega arith
 item-not-8 (no-block l e) h z = omega arith
 item-not-8 (no-part n) h z = opaque-not-8 n z
 item-not-8 (no-string n) h z = opaque-not-8 n z
-item-not-8 (not-utf8 x q t z) h k = omega arith
 
 -- ---- two byte strings from o on that are alike before a
 
@@ -114,6 +117,7 @@ pub unseen : {sc : Script} {o c a n : ℕ} {b : List ℕ} → Coded sc → Stops
 unseen (refuses k) (barred e f g) z d h = barred e f g
 unseen {o = o} (stands k) (standing t) z d h = standing (unseen (k o) t z d h)
 unseen (reads i k) (no-item m e f) z d h = absurd (item-not-8 m i z)
+unseen (reads i k) (not-text x j q l g z e f) y d h = absurd (omega arith)
 unseen (reads i k) (past-item x y v m e f ix t) z d h =
     let l = spans t .0 in
     past-item x (drop (length x) d) v m (same-front h x y e l) f ix (unseen (k v) t z (drop (length x) d) (same-back h x y e l))

@@ -6,7 +6,7 @@ use mathlib.Core.Bool.{Bool, false}
 use mathlib.Core.List.{List, _++_}
 use lib.ListN.{length}
 use Rattle.reading.specs.Bytes.{be4, pads, padded}
-use Rattle.reading.specs.Utf8.{utf8}
+use Rattle.reading.specs.Utf8.{Longest}
 use Rattle.reading.specs.Script.{Width, octet-count, Span, Value, Found, Item, word, tested, long, int, block, opaque, string, Script, refuse, here, item, within, repeat}
 use Rattle.reading.specs.Grammar.{Opaque, Is-item, Many, Is}
 
@@ -36,7 +36,6 @@ pub data No-item (b : List ℕ) (code : ℕ) : Item → Type 0 where
   no-block : {w : Width} → length b < octet-count w → code ≡ 2 → No-item b code (block w)
   no-part : No-opaque b code → No-item b code opaque
   no-string : No-opaque b code → No-item b code string
-  not-utf8 : (x : List ℕ) → Opens x b → utf8 x ≡ false → code ≡ 7 → No-item b code string
 
 -- a script that starts at o, with b left of what encloses it, stops with this code at this position, after so many items
 pub data Stops : Script → (o : ℕ) → (b : List ℕ) → (code at items : ℕ) → Type 0 where
@@ -45,6 +44,8 @@ pub data Stops : Script → (o : ℕ) → (b : List ℕ) → (code at items : �
   standing : {k : ℕ → Script} {o code at n : ℕ} {b : List ℕ} → Stops (k o) o b code at n → Stops (here k) o b code at n
   -- the next item is none; or it is one, and the reading stops behind it
   no-item : {i : Item} {k : Value → Script} {o code at n : ℕ} {b : List ℕ} → No-item b code i → at ≡ o → n ≡ 0 → Stops (item i k) o b code at n
+  -- the next item is a string that is there, and whose bytes are not well-formed from the end of their longest well-formed beginning on
+  not-text : {k : Value → Script} {o code at n : ℕ} {b : List ℕ} (x : List ℕ) (j : ℕ) → Opens x b → Longest x j → j < length x → code ≡ 7 → at ≡ o + 4 + j → n ≡ 0 → Stops (item string k) o b code at n
   past-item : {i : Item} {k : Value → Script} {o code at n : ℕ} {b : List ℕ} (x y : List ℕ) (v : Value) (m : ℕ) → b ≡ x ++ y → n ≡ 1 + m
       → Is-item i o x v → Stops (k v) (o + length x) y code at m → Stops (item i k) o b code at n
   -- the next item is no opaque; or it is one, and the reading stops inside it, where its payload encloses it; or behind it

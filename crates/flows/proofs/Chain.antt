@@ -10,7 +10,7 @@ use lib.Dec.{leb}
 use lib.ListN.{length, take, drop, getD, take-append-drop}
 use lib.Seq.{take-take}
 use Rattle.reading.specs.Bytes.{be4}
-use Rattle.reading.specs.Utf8.{utf8}
+use Rattle.reading.specs.Utf8.{well-formed}
 use Rattle.reading.specs.Script.{Width, six, eight, sixteen, Value, number, octets, part, nothing, Item, word, long, opaque, string}
 use Rattle.reading.specs.Cursor.{got, read-item, times, follow}
 use Rattle.reading.specs.Layout.{Field, plain, mac, any-word, words, bytes}
@@ -310,7 +310,7 @@ then-part s c i o h j e q = rw (h, q) (go o e)
 
 -- a string that is passed, by its opaque
 pub text-passed : (s : List ℕ) (c : Cursor) {o : Part} → part-out o ≡ read-item opaque s (place c) → {x : Span} {d : Cursor} → o ≡ a-part.Got x d → Inside s c
-    → {b : Bool} {end : ℕ} → end ≡ x .start + x .count → b ≡ utf8 (take (end - x .start) (drop (x .start) s)) → b ≡ true → Ends (plain string ∷ []) s (passed.Got c) (passed.Got d)
+    → {n end : ℕ} → end ≡ x .start + x .count → n ≡ well-formed (take (end - x .start) (drop (x .start) s)) → x .count ≤ n → Ends (plain string ∷ []) s (passed.Got c) (passed.Got d)
 text-passed s c e h i z u t = ends (item-goes string s c i (string-got s c e h z u t))
 
 pub range-arm : {k j : Kind} {s : List ℕ} {c : Cursor} {q : Passed} {vs : List Value} → k ≡ j → Reads (field-of j ∷ []) s c q vs → Reads (field-of k ∷ []) s c q vs

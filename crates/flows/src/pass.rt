@@ -18,7 +18,7 @@ pub struct Row {
     pub passed: Passed,
 }
 
-// A string, as `read_string` has it. What it is asked of `is_utf8` is a plain yes or no, which a call hands back in a register.
+// A string, as `read_string` has it, without the span: so that what comes back fits in registers.
 fn text_at(c: Cursor, s: &[u8]) -> Passed
     requires { ⌜ Inside (now s) c ⌝ }
     ensures { λ r. ⌜ Ends (str ∷ []) (now (s .entry)) (Passed.Got c) r ⌝ }
@@ -28,10 +28,11 @@ fn text_at(c: Cursor, s: &[u8]) -> Passed
         Part::Got(x, d) => {
             let start = x.start;
             let end = start + x.count;
-            if utf8::is_utf8(&s[start..end]) {
-                return Passed::Got(d);
+            let good = utf8::well_formed(&s[start..end]);
+            if good < x.count {
+                return Passed::Stop(c.ill_formed(start + good));
             }
-            Passed::Stop(c.refusal(7))
+            Passed::Got(d)
         }
     }
 }

@@ -10,7 +10,7 @@ use lib.ListN.{length}
 use Rattle.reading.specs.Bytes.{be4}
 use Rattle.reading.specs.Utf8.{utf8}
 use Rattle.reading.specs.Script.{Width, four, six, eight, sixteen, octet-count, Span, number, part, Found, _&&_, Item, word, tested, long, int, block, opaque, string, Script, give, refuse, here, item, within, repeat}
-use Rattle.reading.specs.Cursor.{Place, Out, got, stop, Reader, then, on, fixed, bytes, read-opaque, read-item, times, held-to, inside, follow}
+use Rattle.reading.specs.Cursor.{Place, Out, got, stop, Reader, then, on, fixed, bytes, ill-at, read-opaque, read-item, times, held-to, inside, follow}
 use Rattle.reading.proofs.Items.{held-to-end, opaque-read, Or-here, refused, opaque-here}
 
 -- what an answer from the place p owes to the input s
@@ -49,11 +49,11 @@ module _ (s : List ℕ) (p : Place) where
   owes-value (got a q) f h = h
   owes-value (stop c a n) f h = h
 
-  owes-string : (o : Out Span) → p .at ≤ length s → Owes s p o → Owes s p (then o (λ x q. cond (utf8 (bytes s x)) (got (part x) q) (stop 7 (p .at) (p .steps))))
+  owes-string : (o : Out Span) → p .at ≤ length s → Owes s p o → Owes s p (then o (λ x q. cond (utf8 (bytes s x)) (got (part x) q) (stop 7 (ill-at s x) (p .steps))))
   unfolding Owes
   owes-string (got x q) i h = go (utf8 (bytes s x))
     where
-      go : (b : Bool) → Owes s p (cond b (got (part x) q) (stop 7 (p .at) (p .steps)))
+      go : (b : Bool) → Owes s p (cond b (got (part x) q) (stop 7 (ill-at s x) (p .steps)))
       go true = h
       go false = omega arith
   owes-string (stop c a n) i h = h

@@ -9,7 +9,7 @@ use lib.ListN.{length}
 use Rattle.reading.specs.Bytes.{be4, padded}
 use Rattle.reading.specs.Utf8.{utf8}
 use Rattle.reading.specs.Script.{Span, number, part, Found, word, opaque, string, Script, within}
-use Rattle.reading.specs.Cursor.{Place, Out, got, stop, then, fixed, max-opaque, awaited, bytes, read-opaque, read-item, follow}
+use Rattle.reading.specs.Cursor.{Place, Out, got, stop, then, fixed, max-opaque, awaited, bytes, ill-at, read-opaque, read-item, follow}
 use Rattle.reading.proofs.Items.{never, split, fixed-stops, word-seen, opaque-read}
 
 module _ (s : List ℕ) (p : Place) where
@@ -58,22 +58,22 @@ module _ (s : List ℕ) (p : Place) where
   unfolding read-item
   string-cut {c} {a} {n} e = go (read-opaque s p) e
     where
-      go : (o : Out Span) → stop c a n ≡ then o (λ x q. got (part x) q) → stop c a n ≡ then o (λ x q. cond (utf8 (bytes s x)) (got (part x) q) (stop 7 (p .at) (p .steps)))
+      go : (o : Out Span) → stop c a n ≡ then o (λ x q. got (part x) q) → stop c a n ≡ then o (λ x q. cond (utf8 (bytes s x)) (got (part x) q) (stop 7 (ill-at s x) (p .steps)))
       go (got x q) h = never h
       go (stop c′ a′ n′) h = cc
 
   module _ {x : Span} {q : Place} (e : got (part x) q ≡ read-item opaque s p) where
-    judged : read-item string s p ≡ cond (utf8 (bytes s x)) (got (part x) q) (stop 7 (p .at) (p .steps))
+    judged : read-item string s p ≡ cond (utf8 (bytes s x)) (got (part x) q) (stop 7 (ill-at s x) (p .steps))
     unfolding read-item
     judged = go (read-opaque s p) e
       where
         go : (o : Out Span) → got (part x) q ≡ then o (λ y r. got (part y) r)
-            → then o (λ y r. cond (utf8 (bytes s y)) (got (part y) r) (stop 7 (p .at) (p .steps))) ≡ cond (utf8 (bytes s x)) (got (part x) q) (stop 7 (p .at) (p .steps))
+            → then o (λ y r. cond (utf8 (bytes s y)) (got (part y) r) (stop 7 (ill-at s y) (p .steps))) ≡ cond (utf8 (bytes s x)) (got (part x) q) (stop 7 (ill-at s x) (p .steps))
         go (got y r) h = let i : x ≡ y = cc in let j : q ≡ r = cc in rw (i, j)
         go (stop c a n) h = never (sym h)
 
     pub string-got : utf8 (bytes s x) ≡ true → got (part x) q ≡ read-item string s p
     string-got t = sym (judged ∙ rw t)
 
-    pub string-refused : utf8 (bytes s x) ≡ false → stop 7 (p .at) (p .steps) ≡ read-item string s p
+    pub string-refused : utf8 (bytes s x) ≡ false → stop 7 (ill-at s x) (p .steps) ≡ read-item string s p
     string-refused t = sym (judged ∙ rw t)

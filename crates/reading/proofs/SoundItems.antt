@@ -11,7 +11,7 @@ use lib.Seq.{length-take-le, drop-drop, take-add}
 use Rattle.reading.specs.Bytes.{signed, be4, be8, pads, padded}
 use Rattle.reading.specs.Utf8.{utf8}
 use Rattle.reading.specs.Script.{octet-count, Span, Value, number, integer, octets, part, Item, word, tested, long, int, block, opaque, string}
-use Rattle.reading.specs.Cursor.{Place, got, stop, on, fixed, bytes, read-opaque, read-item}
+use Rattle.reading.specs.Cursor.{Place, got, stop, on, fixed, bytes, ill-at, read-opaque, read-item}
 use Rattle.reading.specs.Grammar.{Opaque, Is-item}
 use Rattle.reading.proofs.Items.{never, split, fixed-read, Opaque-read, opaque-read}
 use Rattle.reading.proofs.Stands.{place, Stands, be4-at, be4-here}
@@ -105,6 +105,6 @@ sound-item string s p v q h =
     let w = split (read-opaque s p) _ h in
     go (w .value) (w .place) (opaque-read s p (w .value) (w .place) (w .first)) (utf8 (bytes s (w .value))) refl (w .second)
   where
-    go : (x : Span) (e : Place) → Opaque-read s p x e → (b : Bool) → utf8 (bytes s x) ≡ b → cond b (got (part x) e) (stop 7 (p .at) (p .steps)) ≡ got v q → Item-read string s p v q
+    go : (x : Span) (e : Place) → Opaque-read s p x e → (b : Bool) → utf8 (bytes s x) ≡ b → cond b (got (part x) e) (stop 7 (ill-at s x) (p .steps)) ≡ got v q → Item-read string s p v q
     go x e r true t k = spanned s p x e r string v q k (λ u y m o z. (y, o, ap utf8 m ∙ t, z))
     go x e r false t k = never k

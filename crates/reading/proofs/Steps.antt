@@ -53,7 +53,7 @@ module _ (s : List ℕ) (p q : Place) (e : p .at ≡ q .at) where
   alike-item int = rw e (alike-cond (leb (q .at + 4) (length s)) (both-got refl) both-stop)
   alike-item (block w) = rw e (alike-cond (leb (q .at + octet-count w) (length s)) (both-got refl) both-stop)
   alike-item opaque = alike-then _ _ alike-opaque (λ x r t h. both-got h)
-  alike-item string = alike-then _ _ alike-opaque (λ x r t h. alike-cond (utf8 (bytes s x)) (both-got h) (alike-stop 7 (p .at) (q .at) (p .steps) (q .steps) e))
+  alike-item string = alike-then _ _ alike-opaque (λ x r t h. alike-cond (utf8 (bytes s x)) (both-got h) both-stop)
 
 alike-times : (r : Reader Found) (s : List ℕ) → Steady (r s) → (n : ℕ) → Steady (times n r s)
 unfolding times

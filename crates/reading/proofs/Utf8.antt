@@ -188,3 +188,21 @@ past-width (a ∷ s) h = go (width (a ∷ s)) h ∙ sym (by-width a s)
     go : (n : ℕ) → 0 < n → utf8 (drop n (a ∷ s)) ≡ after n (a ∷ s)
     go zero h = absurd (omega arith)
     go (suc n) h = refl
+
+-- a sequence lies within the bytes
+cond-le : (x : Bool) (m n k : ℕ) → m ≤ k → n ≤ k → cond x m n ≤ k
+cond-le true m n k h l = h
+cond-le false m n k h l = l
+
+pub width-length : (t : List ℕ) → width t ≤ length t
+unfolding width
+width-length [] = omega arith
+width-length (a ∷ []) = cond-le (utf8-1 a) _ _ _ (omega arith) (omega arith)
+width-length (a ∷ b ∷ []) = cond-le (utf8-1 a) _ _ _ (omega arith) (cond-le (utf8-2 a b) _ _ _ (omega arith) (omega arith))
+width-length (a ∷ b ∷ c ∷ []) =
+    cond-le (utf8-1 a) _ _ _ (omega arith) (cond-le (utf8-2 a b) _ _ _ (omega arith) (cond-le (utf8-3 a b c) _ _ _ (omega arith) (omega arith)))
+width-length (a ∷ b ∷ c ∷ d ∷ s) =
+    cond-le (utf8-1 a) _ _ _ (omega arith)
+    (cond-le (utf8-2 a b) _ _ _ (omega arith)
+    (cond-le (utf8-3 a b c) _ _ _ (omega arith)
+    (cond-le (utf8-4 a b c d) _ _ _ (omega arith) (omega arith))))

@@ -9,8 +9,9 @@ use borrow.Author.Tests.{leb-true, leb-false, le-leb, lt-leb}
 use lib.Dec.{leb}
 use lib.ListN.{length, drop, getD}
 use lib.Seq.{drop-drop}
-use Rattle.reading.specs.Utf8.{_&_, among, tail, utf8-1, utf8-2, utf8-3, utf8-4, utf8}
-use Rattle.reading.proofs.Utf8.{pick, width, among-from, among-below, among-above, among-bounds, rows-3, rows-4, above-3, past-width, both}
+use Rattle.reading.specs.Utf8.{_&_, among, tail, utf8-1, utf8-2, utf8-3, utf8-4}
+use Rattle.reading.proofs.Utf8.{pick, width, among-from, among-below, among-above, among-bounds, rows-3, rows-4, above-3, both}
+use Rattle.reading.proofs.Utf8Longest.{ends, sequence-on}
 use Rattle.reading.proofs.Utf8Places.{width-at}
 
 -- a byte that begins a character; whether one is awaited behind these three; and whether d may stand there, behind c
@@ -297,13 +298,10 @@ module _ (s : List ℕ) (low n : ℕ) (all : all-fit s low n ≡ true) (three : 
       let k = by-first (b p) (b (p + 1)) (b (p + 2)) (g .0) (omega (arith, tail-high (b (p + 2)) v .1)) (omega (arith, tail-high (b (p + 1)) u .1)) in
       absurd (omega (arith, tail-high (b p) t .1))
 
-  moved : (p w r : ℕ) → width (drop p s) ≡ w → 0 < w → p + w ≡ r → utf8 (drop r s) ≡ utf8 (drop p s)
-  moved p w r e h z = rw (← z, ← drop-drop w p s, ← e) (past-width (drop p s) (omega arith))
-
   -- past all the characters before a byte that begins one
   module _ (start : tail (b low) ≡ false) where
-    step : (r : ℕ) → low ≤ r → r < low + n → tail (b r) ≡ false → ((p : ℕ) → low ≤ p → p < r → tail (b p) ≡ false → utf8 (drop p s) ≡ utf8 (drop low s)) → utf8 (drop r s) ≡ utf8 (drop low s)
-    step r from l t before = split-at r low (λ h. let z : r ≡ low = omega arith in ap (λ (i : ℕ). utf8 (drop i s)) z) (λ h. by-one h (tail (b (r - 1))) refl)
+    step : (r : ℕ) → low ≤ r → r < low + n → tail (b r) ≡ false → ((p : ℕ) → low ≤ p → p < r → tail (b p) ≡ false → ends s p ≡ ends s low) → ends s r ≡ ends s low
+    step r from l t before = split-at r low (λ h. let z : r ≡ low = omega arith in ap (λ (i : ℕ). ends s i) z) (λ h. by-one h (tail (b (r - 1))) refl)
       where
         -- a tail is not where all begins
         later : (p : ℕ) → low ≤ p → tail (b p) ≡ true → low < p
@@ -312,13 +310,13 @@ module _ (s : List ℕ) (low n : ℕ) (all : all-fit s low n ≡ true) (three : 
         at-end : (w : ℕ) → w ≤ r → tail (b (r - w + w)) ≡ false
         at-end w h = let z : r - w + w ≡ r = omega arith in rw z t
 
-        by-four : low < r - 2 → tail (b (r - 1)) ≡ true → tail (b (r - 2)) ≡ true → tail (b (r - 3)) ≡ true → (x : Bool) → tail (b (r - 4)) ≡ x → utf8 (drop r s) ≡ utf8 (drop low s)
+        by-four : low < r - 2 → tail (b (r - 1)) ≡ true → tail (b (r - 2)) ≡ true → tail (b (r - 3)) ≡ true → (x : Bool) → tail (b (r - 4)) ≡ x → ends s r ≡ ends s low
         by-four h u v w false e =
             let k = later (r - 3) (omega arith) w in
             let c : tail (b (r - 4 + 1)) ≡ true = let z : r - 4 + 1 ≡ r - 3 = omega arith in rw z w in
             let d : tail (b (r - 4 + 2)) ≡ true = let z : r - 4 + 2 ≡ r - 2 = omega arith in rw z v in
             let f : tail (b (r - 4 + 3)) ≡ true = let z : r - 4 + 3 ≡ r - 1 = omega arith in rw z u in
-            moved (r - 4) 4 r (four-wide (r - 4) (omega arith) e (omega arith) c d f) (omega arith) (omega arith) ∙ before (r - 4) (omega arith) (omega arith) e
+            sequence-on s (r - 4) 4 r (four-wide (r - 4) (omega arith) e (omega arith) c d f) (omega arith) (omega arith) ∙ before (r - 4) (omega arith) (omega arith) e
         by-four h u v w true e =
             let k = later (r - 3) (omega arith) w in
             let c : tail (b (r - 4 + 1)) ≡ true = let z : r - 4 + 1 ≡ r - 3 = omega arith in rw z w in
@@ -326,28 +324,28 @@ module _ (s : List ℕ) (low n : ℕ) (all : all-fit s low n ≡ true) (three : 
             let f : tail (b (r - 4 + 3)) ≡ true = let z : r - 4 + 3 ≡ r - 1 = omega arith in rw z u in
             no-four (r - 4) (omega arith) (omega arith) e c d f
 
-        by-three : low < r - 1 → tail (b (r - 1)) ≡ true → tail (b (r - 2)) ≡ true → (x : Bool) → tail (b (r - 3)) ≡ x → utf8 (drop r s) ≡ utf8 (drop low s)
+        by-three : low < r - 1 → tail (b (r - 1)) ≡ true → tail (b (r - 2)) ≡ true → (x : Bool) → tail (b (r - 3)) ≡ x → ends s r ≡ ends s low
         by-three h u v false e =
             let k = later (r - 2) (omega arith) v in
             let c : tail (b (r - 3 + 1)) ≡ true = let z : r - 3 + 1 ≡ r - 2 = omega arith in rw z v in
             let d : tail (b (r - 3 + 2)) ≡ true = let z : r - 3 + 2 ≡ r - 1 = omega arith in rw z u in
-            moved (r - 3) 3 r (three-wide (r - 3) (omega arith) e (omega arith) c d (at-end 3 (omega arith))) (omega arith) (omega arith) ∙ before (r - 3) (omega arith) (omega arith) e
+            sequence-on s (r - 3) 3 r (three-wide (r - 3) (omega arith) e (omega arith) c d (at-end 3 (omega arith))) (omega arith) (omega arith) ∙ before (r - 3) (omega arith) (omega arith) e
         by-three h u v true e = by-four (later (r - 2) (omega arith) v) u v e (tail (b (r - 4))) refl
 
-        by-two : low < r → tail (b (r - 1)) ≡ true → (x : Bool) → tail (b (r - 2)) ≡ x → utf8 (drop r s) ≡ utf8 (drop low s)
+        by-two : low < r → tail (b (r - 1)) ≡ true → (x : Bool) → tail (b (r - 2)) ≡ x → ends s r ≡ ends s low
         by-two h u false e =
             let k = later (r - 1) (omega arith) u in
             let c : tail (b (r - 2 + 1)) ≡ true = let z : r - 2 + 1 ≡ r - 1 = omega arith in rw z u in
-            moved (r - 2) 2 r (two (r - 2) (omega arith) e (omega arith) c (at-end 2 (omega arith))) (omega arith) (omega arith) ∙ before (r - 2) (omega arith) (omega arith) e
+            sequence-on s (r - 2) 2 r (two (r - 2) (omega arith) e (omega arith) c (at-end 2 (omega arith))) (omega arith) (omega arith) ∙ before (r - 2) (omega arith) (omega arith) e
         by-two h u true e = by-three (later (r - 1) (omega arith) u) u e (tail (b (r - 3))) refl
 
-        by-one : low < r → (x : Bool) → tail (b (r - 1)) ≡ x → utf8 (drop r s) ≡ utf8 (drop low s)
-        by-one h false e = moved (r - 1) 1 r (one (r - 1) (omega arith) e (omega arith) (at-end 1 (omega arith))) (omega arith) (omega arith) ∙ before (r - 1) (omega arith) (omega arith) e
+        by-one : low < r → (x : Bool) → tail (b (r - 1)) ≡ x → ends s r ≡ ends s low
+        by-one h false e = sequence-on s (r - 1) 1 r (one (r - 1) (omega arith) e (omega arith) (at-end 1 (omega arith))) (omega arith) (omega arith) ∙ before (r - 1) (omega arith) (omega arith) e
         by-one h true e = by-two h e (tail (b (r - 2))) refl
 
-    up-to : (k r : ℕ) → r ≤ low + k → low ≤ r → r < low + n → tail (b r) ≡ false → utf8 (drop r s) ≡ utf8 (drop low s)
-    up-to zero r m h l t = let z : r ≡ low = omega arith in ap (λ (i : ℕ). utf8 (drop i s)) z
+    up-to : (k r : ℕ) → r ≤ low + k → low ≤ r → r < low + n → tail (b r) ≡ false → ends s r ≡ ends s low
+    up-to zero r m h l t = let z : r ≡ low = omega arith in ap (λ (i : ℕ). ends s i) z
     up-to (suc k) r m h l t = step r h l t (λ p i j u. up-to k p (omega arith) i (omega arith) u)
 
-    pub bytes-passed : (r : ℕ) → low ≤ r → r < low + n → tail (b r) ≡ false → utf8 (drop r s) ≡ utf8 (drop low s)
+    pub bytes-passed : (r : ℕ) → low ≤ r → r < low + n → tail (b r) ≡ false → ends s r ≡ ends s low
     bytes-passed r h l t = up-to (r - low) r (omega arith) h l t

@@ -9,27 +9,11 @@ use borrow.Author.Tests.{leb-true, leb-false, le-leb, lt-leb}
 use lib.ListN.{length, drop, getD, length-drop, drop-of-length-le}
 use lib.Seq.{drop-cons, drop-drop, getD-drop}
 use lib.Dec.{leb, leb·suc-suc, leb·suc-zero}
-use Rattle.reading.specs.Utf8.{_&_, _or_, utf8-1, utf8-2, utf8-3, utf8-4, utf8}
-use Rattle.reading.proofs.Utf8.{pick, plain, width, both, by-width, ill-formed, past-width, width-2, width-3, width-4}
+use Rattle.reading.specs.Utf8.{_&_, utf8-1, utf8-2, utf8-3, utf8-4, well-formed}
+use Rattle.reading.proofs.Utf8.{pick, plain, width, both, width-2, width-3, width-4, width-length}
+use Rattle.reading.proofs.Utf8Longest.{ends, none-ends, sequence-on}
 
--- a sequence and a run lie within the bytes
-cond-le : (x : Bool) (m n k : ℕ) → m ≤ k → n ≤ k → cond x m n ≤ k
-cond-le true m n k h l = h
-cond-le false m n k h l = l
-
-width-length : (t : List ℕ) → width t ≤ length t
-unfolding width
-width-length [] = omega arith
-width-length (a ∷ []) = cond-le (utf8-1 a) _ _ _ (omega arith) (omega arith)
-width-length (a ∷ b ∷ []) = cond-le (utf8-1 a) _ _ _ (omega arith) (cond-le (utf8-2 a b) _ _ _ (omega arith) (omega arith))
-width-length (a ∷ b ∷ c ∷ []) =
-    cond-le (utf8-1 a) _ _ _ (omega arith) (cond-le (utf8-2 a b) _ _ _ (omega arith) (cond-le (utf8-3 a b c) _ _ _ (omega arith) (omega arith)))
-width-length (a ∷ b ∷ c ∷ d ∷ s) =
-    cond-le (utf8-1 a) _ _ _ (omega arith)
-    (cond-le (utf8-2 a b) _ _ _ (omega arith)
-    (cond-le (utf8-3 a b c) _ _ _ (omega arith)
-    (cond-le (utf8-4 a b c d) _ _ _ (omega arith) (omega arith))))
-
+-- a run lies within the bytes
 plain-length : (t : List ℕ) → plain t ≤ length t
 unfolding plain
 plain-length [] = omega arith
@@ -40,14 +24,14 @@ plain-length (a ∷ s) = go (utf8-1 a) (plain-length s)
     go false h = omega arith
 
 -- the run of UTF8-1 in front: it can be passed, and so can a part of it
-pub past-plain : (i : ℕ) (t : List ℕ) → i ≤ plain t → utf8 (drop i t) ≡ utf8 t
+past-plain : (i : ℕ) (t : List ℕ) → i ≤ plain t → ends t i ≡ well-formed t
 unfolding plain width
-past-plain zero t h = refl
-past-plain (suc i) [] h = refl
+past-plain zero t h = omega arith
+past-plain (suc i) [] h = absurd (omega arith)
 past-plain (suc i) (a ∷ s) h = go (utf8-1 a) refl h (past-plain i s)
   where
-    go : (x : Bool) → utf8-1 a ≡ x → suc i ≤ cond x (suc (plain s)) 0 → (i ≤ plain s → utf8 (drop i s) ≡ utf8 s) → utf8 (drop i s) ≡ utf8 (a ∷ s)
-    go true e h f = f (omega arith) ∙ sym (by-width a s ∙ rw e)
+    go : (x : Bool) → utf8-1 a ≡ x → suc i ≤ cond x (suc (plain s)) 0 → (i ≤ plain s → ends s i ≡ well-formed s) → ends (a ∷ s) (suc i) ≡ well-formed (a ∷ s)
+    go true e h f = let g : ends (a ∷ s) 1 ≡ ends (a ∷ s) 0 = sequence-on (a ∷ s) 0 1 1 (rw e) (omega arith) (omega arith) in omega (arith, f (omega arith), g)
     go false e h f = absurd (omega arith)
 
 plain-drop : (i : ℕ) (t : List ℕ) → i ≤ plain t → plain t ≡ i + plain (drop i t)
@@ -158,17 +142,20 @@ width-at s at h e =
       opened (width-4 (getD s at 0) (getD s (at + 1) 0) (getD s (at + 2) 0)) refl s at 3,
     ))
 
--- what is left decides as the whole does: at the end, past a run, past a sequence, and where there is none
-module _ (s : List ℕ) (at : ℕ) (same : utf8 (drop at s) ≡ utf8 s) where
-  pub all-passed : length s ≤ at → true ≡ utf8 s
-  unfolding utf8
-  all-passed h = rw (drop-of-length-le s h) at same
+none-left : width [] ≡ 0
+unfolding width
+none-left = refl
 
-  pub run-passed : {r : ℕ} → r ≡ at + plain (drop at s) → utf8 (drop r s) ≡ utf8 s
-  run-passed e = rw (e, ← drop-drop (plain (drop at s)) at s) (past-plain (plain (drop at s)) (drop at s) (omega arith) ∙ same)
+-- what is left goes bad where the whole does: at the end, past a run, past a sequence, and where there is none
+module _ (s : List ℕ) (at : ℕ) (same : ends s at ≡ well-formed s) where
+  pub all-passed : length s ≤ at → at ≡ well-formed s
+  all-passed h = let e : ends s at ≡ at = rw (drop-of-length-le s h) (omega (arith, none-ends [] none-left)) in sym e ∙ same
 
-  pub sequence-passed : {n : ℕ} → n ≡ width (drop at s) → (n ≡ 0 → ⊥) → utf8 (drop (at + n) s) ≡ utf8 s
-  sequence-passed {n} e h = rw (← drop-drop n at s, e) (past-width (drop at s) (omega arith) ∙ same)
+  pub run-passed : {r : ℕ} → r ≡ at + plain (drop at s) → ends s r ≡ well-formed s
+  run-passed e = rw (e, ← drop-drop (plain (drop at s)) at s) (omega (arith, past-plain (plain (drop at s)) (drop at s) (omega arith), same))
 
-  pub none-there : {n : ℕ} → n ≡ width (drop at s) → n ≡ 0 → at < length s → false ≡ utf8 s
-  none-there e z h = sym (ill-formed (drop at s) (rw (length-drop at s) (omega arith)) (sym e ∙ z)) ∙ same
+  pub sequence-passed : {n : ℕ} → n ≡ width (drop at s) → (n ≡ 0 → ⊥) → ends s (at + n) ≡ well-formed s
+  sequence-passed {n} e h = sequence-on s at n (at + n) (sym e) (omega arith) refl ∙ same
+
+  pub none-there : {n : ℕ} → n ≡ width (drop at s) → n ≡ 0 → at ≡ well-formed s
+  none-there e z = omega (arith, none-ends (drop at s) (sym e ∙ z), same)

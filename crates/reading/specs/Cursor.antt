@@ -5,7 +5,7 @@ use mathlib.Core.List.{List}
 use lib.ListN.{length, take, drop}
 use lib.Dec.{leb}
 use Rattle.reading.specs.Bytes.{be4, be8, signed, padded}
-use Rattle.reading.specs.Utf8.{utf8}
+use Rattle.reading.specs.Utf8.{utf8, well-formed}
 use Rattle.reading.specs.Script.{octet-count, Span, Value, number, integer, octets, part, Found, nothing, _&&_, Item, word, tested, long, int, block, opaque, string, Script, give, refuse, here, item, within, repeat}
 
 -- the next byte, counted from the input's first, and the steps: the items wholly read and accepted so far
@@ -52,6 +52,10 @@ read-opaque s p = then (fixed 4 (be4 s (p .at)) s p) (λ n q.
 abbrev pub bytes : List ℕ → Span → List ℕ
 bytes s x = take (x .count) (drop (x .start) s)
 
+-- where the string with these bytes is ill-formed: where its longest well-formed beginning ends
+abbrev pub ill-at : List ℕ → Span → ℕ
+ill-at s x = x .start + well-formed (bytes s x)
+
 unfoldable pub read-item : Item → Reader Value
 unfolding fixed read-opaque
 read-item word s p = fixed 4 (number (be4 s (p .at))) s p
@@ -63,7 +67,7 @@ read-item long s p = fixed 8 (number (be8 s (p .at))) s p
 read-item int s p = fixed 4 (integer (signed (be4 s (p .at)))) s p
 read-item (block w) s p = fixed (octet-count w) (octets (take (octet-count w) (drop (p .at) s))) s p
 read-item opaque s p = then (read-opaque s p) (λ x q. got (part x) q)
-read-item string s p = then (read-opaque s p) (λ x q. cond (utf8 (bytes s x)) (got (part x) q) (stop 7 (p .at) (p .steps)))
+read-item string s p = then (read-opaque s p) (λ x q. cond (utf8 (bytes s x)) (got (part x) q) (stop 7 (ill-at s x) (p .steps)))
 
 -- `r`, n times over, with all that it finds
 unfoldable pub times : ℕ → Reader Found → Reader Found

@@ -1,7 +1,9 @@
 -- RFC 3629, section 4: the well-formed byte sequences, a line for each row of its table. Assumes nothing.
-use Prim.Native.Nat.{ℕ}
-use mathlib.Core.Bool.{Bool, true, false}
+use Prim.Native.Nat.{ℕ, zero, suc, _≤_, _<_}
+use mathlib.Core.Path.{_≡_}
+use mathlib.Core.Bool.{Bool, true, false, cond}
 use mathlib.Core.List.{List, [], _∷_}
+use lib.ListN.{length, take}
 use lib.Dec.{leb}
 
 infixr 30 _&_
@@ -52,3 +54,17 @@ utf8 (a ∷ b ∷ c ∷ d ∷ s) =
     or utf8-2 a b & utf8 (c ∷ d ∷ s)
     or utf8-3 a b c & utf8 (d ∷ s)
     or utf8-4 a b c d & utf8 s
+
+-- how many bytes the longest beginning has that is well-formed: of those of at most n bytes, and of all
+unfoldable pub longest-to : ℕ → List ℕ → ℕ
+longest-to zero s = 0
+longest-to (suc n) s = cond (utf8 (take (suc n) s)) (suc n) (longest-to n s)
+
+abbrev pub well-formed : List ℕ → ℕ
+well-formed s = longest-to (length s) s
+
+-- n bytes of s are that beginning: they are well-formed, and no more of them are
+pub record Longest (s : List ℕ) (n : ℕ) : Type 0 where
+  pub within : n ≤ length s
+  pub well : utf8 (take n s) ≡ true
+  pub most : (m : ℕ) → n < m → m ≤ length s → utf8 (take m s) ≡ false

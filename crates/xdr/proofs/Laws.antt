@@ -1,17 +1,18 @@
 -- What the items' answers say of the reading: a law for each way out of a method, with the facts that the code has there. Assumes nothing.
 use mathlib.Core.Path.{_≡_, sym, _∙_}
-use mathlib.Core.Bool.{Bool, true, false}
 use mathlib.Core.List.{List}
 use Prim.Native.Nat.{ℕ, _+_, _*_, _-_, _/_, _^_, _≤_, _<_}
 use native.Mathlib.Omega.{arith}
 use lib.IntN.{ℤ}
-use lib.ListN.{length, take, drop}
+use lib.ListN.{length, take, drop, length-drop}
+use lib.Seq.{length-take-le}
 use mir.Syntax.{w64}
 use mir.Val.{Fits}
 use borrow.Author.Needs.{needs}
 use borrow.Author.Tests.{le-leb, lt-leb}
 use Rattle.reading.specs.Bytes.{be4, be8, signed, padded}
-use Rattle.reading.specs.Utf8.{utf8}
+use Rattle.reading.specs.Utf8.{well-formed}
+use Rattle.reading.proofs.Utf8Longest.{all-well, part-well}
 use Rattle.reading.specs.Script.{number, integer, part, nothing, word, long, int, opaque, string}
 use Rattle.reading.specs.Cursor.{got, fixed, max-opaque, bytes, read-item, times, follow}
 use Rattle.reading.specs.Layout.{any-word}
@@ -28,7 +29,7 @@ use Rattle.xdr.specs.declared.Part.the-variants as a-part
 use Rattle.xdr.specs.declared.Passed.{Passed}
 use Rattle.xdr.specs.declared.Passed.the-variants as passed
 use Rattle.xdr.proofs.Inside.{after-item}
-use Rattle.xdr.specs.Shown.{place, Inside, refused, behind, span, refusal, word-out, part-out, passed-out}
+use Rattle.xdr.specs.Shown.{place, Inside, refused, ill-formed, behind, span, refusal, word-out, part-out, passed-out}
 
 -- ---- an item of n bytes
 module _ (s : List ℕ) (c : Cursor) (n : ℕ) where
@@ -124,14 +125,21 @@ module _ (s : List ℕ) (c : Cursor) {o : Part} (e : part-out o ≡ read-item op
     pub string-end : length s < 2 ^ 64 → Fits w64 (x .start + x .count)
     string-end l = record { fits = omega (arith, string-fits) }
 
-    -- the bytes looked at are the string's
-    judged : {b : Bool} (end : ℕ) → end ≡ x .start + x .count → b ≡ utf8 (take (end - x .start) (drop (x .start) s)) → utf8 (bytes s (span x)) ≡ b
-    judged end z u = let k : end - x .start ≡ x .count = omega arith in sym (rw k at u)
+    -- the bytes looked at are the string's, and n of them are well-formed
+    module _ {n end : ℕ} (z : end ≡ x .start + x .count) (u : n ≡ well-formed (take (end - x .start) (drop (x .start) s))) where
+      good : n ≡ well-formed (bytes s (span x))
+      good = let k : end - x .start ≡ x .count = omega arith in rw k at u
 
-    pub string-got : {b : Bool} {end : ℕ} → end ≡ x .start + x .count → b ≡ utf8 (take (end - x .start) (drop (x .start) s)) → b ≡ true → got (part (span x)) (place d) ≡ read-item string s (place c)
-    string-got {end = end} z u t = opaques.string-got s (place c) (rw h at e) (judged end z u ∙ t)
+      size : length (bytes s (span x)) ≡ x .count
+      size = length-take-le (x .count) (drop (x .start) s) (omega (arith, length-drop (x .start) s, string-fits))
 
-    pub string-bad : {b : Bool} {end : ℕ} {r : Outcome} → end ≡ x .start + x .count → b ≡ utf8 (take (end - x .start) (drop (x .start) s)) → b ≡ false → r ≡ refused 7 c → refusal r ≡ read-item string s (place c)
-    string-bad {end = end} z u t r = rw r (opaques.string-refused s (place c) (rw h at e) (judged end z u ∙ t))
+      pub string-got : x .count ≤ n → got (part (span x)) (place d) ≡ read-item string s (place c)
+      string-got l = opaques.string-got s (place c) (rw h at e) (all-well (bytes s (span x)) (omega (arith, good, size)))
 
-pub ruleset items = (skip-stop, skip-got, skip-fits, word-stop, word-got, long-stop, long-got, int-stop, int-got, run-stop, run-got, word-inside, word-within, opaque-cut, opaque-long, opaque-short, opaque-got, string-cut, string-fits, string-end, string-got, string-bad, needs)
+      pub string-bad : {r : Outcome} → n < x .count → r ≡ ill-formed (x .start + n) c → refusal r ≡ read-item string s (place c)
+      string-bad l r = rw (r, good) (opaques.string-refused s (place c) (rw h at e) (part-well (bytes s (span x)) (omega (arith, good, size))))
+
+      pub string-place : n < x .count → length s < 2 ^ 64 → Fits w64 (x .start + n)
+      string-place l k = record { fits = omega (arith, string-fits) }
+
+pub ruleset items = (skip-stop, skip-got, skip-fits, word-stop, word-got, long-stop, long-got, int-stop, int-got, run-stop, run-got, word-inside, word-within, opaque-cut, opaque-long, opaque-short, opaque-got, string-cut, string-fits, string-end, string-got, string-bad, string-place, needs)

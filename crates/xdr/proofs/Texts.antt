@@ -7,8 +7,9 @@ use native.Mathlib.Omega.{arith}
 use lib.ListN.{length, drop, getD}
 use mir.Syntax.{w64}
 use mir.Val.{Fits}
-use Rattle.reading.specs.Utf8.{tail, utf8}
+use Rattle.reading.specs.Utf8.{tail, well-formed}
 use Rattle.reading.proofs.Utf8.{width}
+use Rattle.reading.proofs.Utf8Longest.{ends}
 use Rattle.reading.proofs.Utf8Bytes.{all-fit, bytes-passed}
 use Rattle.reading.proofs.Utf8Places.{sequence-room}
 use Rattle.xdr.specs.Text.{Last-begins, Same-text}
@@ -34,9 +35,9 @@ module _ (s : List ℕ) (at i n j : ℕ) (g : Same-text s at i) (t : tail (getD 
       let z = bytes-passed s i n (sym e ∙ y) k (omega (arith, g .room)) t j (omega arith) (b .below) u in
       (omega arith, u, record { from = omega (arith, g .from); room = omega (arith, g .room, b .below); same = z ∙ g .same })
 
--- what is left decides as the whole does, and a sequence lies within it
+-- what is left goes bad where the whole does, and a sequence lies within it
 module _ (s : List ℕ) (at r : ℕ) (g : Same-text s at r) where
-  pub text-same : utf8 (drop at s) ≡ utf8 s → utf8 (drop r s) ≡ utf8 s
+  pub text-same : ends s at ≡ well-formed s → ends s r ≡ well-formed s
   text-same e = g .same ∙ e
 
   pub text-inside : r < length s

@@ -41,6 +41,10 @@ pub record Inside (s : List ℕ) (c : Cursor) : Type 0 where
 abbrev pub refused : ℕ → Cursor → Outcome
 refused code c = record { code = code; at = c .at; steps = c .steps }
 
+-- the string here goes bad at `at`
+abbrev pub ill-formed : (at : ℕ) → Cursor → Outcome
+ill-formed at c = record { code = 7; at = at; steps = c .steps }
+
 abbrev pub accepted : Cursor → Outcome
 accepted c = record { code = 0; at = c .at; steps = c .steps }
 

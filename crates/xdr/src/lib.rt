@@ -1,7 +1,7 @@
 // The items of RFC 4506 that an sFlow datagram is made of, read by a cursor that is handed over and handed back with each item.
 ghost use mathlib.Core.Path.{_≡_};
 ghost use Prim.Native.Nat.{_+_, _^_, _≤_, _<_};
-ghost use Rattle.xdr.specs.Shown.{refused, accepted, behind, passed-of};
+ghost use Rattle.xdr.specs.Shown.{refused, ill-formed, accepted, behind, passed-of};
 
 mod addresses;
 mod blocks;
@@ -97,6 +97,17 @@ impl Cursor {
         Outcome {
             code: code,
             at: self.at,
+            steps: self.steps,
+        }
+    }
+
+    // The refusal of the string at the cursor, whose bytes go bad at `at`.
+    pub fn ill_formed(self, at: usize) -> Outcome
+        ensures { λ r. ⌜ r ≡ ill-formed at self ⌝ }
+    {
+        Outcome {
+            code: 7,
+            at: at,
             steps: self.steps,
         }
     }

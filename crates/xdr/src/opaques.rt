@@ -42,7 +42,7 @@ impl Cursor {
         }
     }
 
-    // An opaque that is UTF-8, which is looked at once payload and pad are known to be there.
+    // An opaque that is UTF-8, which is looked at once payload and pad are known to be there. What is not is refused where it goes bad.
     pub fn read_string(self, s: &[u8]) -> Part
         requires { ⌜ Inside (now s) self ⌝ }
         ensures { λ r. ⌜ part-out r ≡ read-item string (now (s .entry)) (place self) ⌝ }
@@ -52,10 +52,11 @@ impl Cursor {
             Part::Got(x, d) => {
                 let start = x.start;
                 let end = start + x.count;
-                if utf8::is_utf8(&s[start..end]) {
-                    return Part::Got(x, d);
+                let good = utf8::well_formed(&s[start..end]);
+                if good < x.count {
+                    return Part::Stop(self.ill_formed(start + good));
                 }
-                Part::Stop(self.refusal(7))
+                Part::Got(x, d)
             }
         }
     }

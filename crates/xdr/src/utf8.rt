@@ -2,7 +2,7 @@ ghost use mathlib.Core.Path.{_≡_};
 ghost use Prim.Native.Nat.{_+_, _*_, _/_, _≤_, _<_};
 ghost use lib.ListN.{length, drop};
 ghost use lib.Dec.{leb};
-ghost use Rattle.reading.specs.Utf8.{among, tail, utf8-2, utf8-3, utf8-4, utf8};
+ghost use Rattle.reading.specs.Utf8.{among, tail, utf8-2, utf8-3, utf8-4, well-formed};
 ghost use Rattle.reading.proofs.Utf8.{plain, width};
 ghost use Rattle.reading.proofs.Utf8Bytes.{begins, awaited, least, most, second, fits, all-fit};
 ghost use Rattle.xdr.specs.Text.{Last-begins, Same-text};
@@ -281,9 +281,9 @@ fn past_windows(s: &[u8], at: usize, n: usize) -> usize
     i
 }
 
-// Whether the bytes are well-formed UTF-8, as RFC 3629's table has it.
-pub fn is_utf8(s: &[u8]) -> bool
-    ensures { λ r. ⌜ r ≡ utf8 (now (s .entry)) ⌝ }
+// How many bytes the longest well-formed beginning has, as RFC 3629's table has it: all of them, where they are UTF-8.
+pub fn well_formed(s: &[u8]) -> usize
+    ensures { λ r. ⌜ r ≡ well-formed (now (s .entry)) ⌝ }
 {
     let mut at = 0;
     while at < s.len() {
@@ -294,9 +294,9 @@ pub fn is_utf8(s: &[u8]) -> bool
         let from = past_windows(s, at, 64);
         let n = sequence(s, from);
         if n == 0 {
-            return false;
+            return from;
         }
         at = from + n;
     }
-    true
+    at
 }

@@ -3,6 +3,7 @@
 use crate::fault::Library;
 use crate::paper::{self, Cursor, Opened, Reading};
 use crate::reach;
+use crate::refused::Refused;
 use crate::shape::*;
 use crate::structure::{self, Held, Node};
 use crate::tally::{same, Checked, Difference, Key, Tally};
@@ -15,15 +16,15 @@ use std::panic::catch_unwind;
 /// A format word that the crate keeps raw in every place.
 const KEPT_RAW: u32 = 4097;
 
-/// What the crate answers: its datagrams, or document 01's code for its refusal.
-pub type Theirs = Result<Vec<SFlowDatagram>, u32>;
+/// What the crate answers: its datagrams, or its refusal.
+pub type Theirs = Result<Vec<SFlowDatagram>, Refused>;
 
 /// The crate's answer to one datagram or to a run of them.
 pub fn theirs(data: &[u8], run: bool) -> Theirs {
     let parse = || if run { parse_datagrams(data) } else { parse_datagram(data).map(|datagram| vec![datagram]) };
     match catch_unwind(parse) {
-        Ok(answer) => answer.map_err(|error| structure::code_of(&error)),
-        Err(_) => Err(u32::MAX),
+        Ok(answer) => answer.map_err(|error| Refused::new(&error)),
+        Err(_) => Err(Refused::ended()),
     }
 }
 
@@ -68,11 +69,13 @@ pub struct Judge {
     library: Library,
     /// The differences of the case at hand.
     found: Vec<Difference>,
+    /// Whether the case at hand had a position of code 7 compared with the crate's index.
+    indexed: bool,
 }
 
 impl Judge {
     pub fn new(fault: u32) -> Self {
-        Judge { tally: Tally::default(), library: Library { fault }, found: Vec::new() }
+        Judge { tally: Tally::default(), library: Library { fault }, found: Vec::new(), indexed: false }
     }
 
     /// Compares one input, as a datagram and as a run.
@@ -86,6 +89,7 @@ impl Judge {
         self.judge(data, &run, true);
         let parts = (0..3).try_for_each(|pick| self.parts(data, one.steps * 3 + pick));
         self.found.extend(parts.err());
+        self.tally.indexed += u64::from(std::mem::take(&mut self.indexed));
         self.tally.differ += u64::from(!self.found.is_empty());
         for found in std::mem::take(&mut self.found) {
             self.tally.note(found, data);
@@ -129,6 +133,7 @@ impl Judge {
             header_is(&ours.header, &reading.header)?;
         }
         self.too_little_room(data, reading, run)?;
+        self.refused_fields(data, reading)?;
         for (index, descriptor) in ours.store.iter().enumerate() {
             self.fields(data, descriptor)?;
             self.changed_fields(data, descriptor, index + data.len())?;
@@ -153,6 +158,14 @@ impl Judge {
             header_is(&ours.header, &[])?;
         }
         Ok(())
+    }
+
+    /// The fields of the sample or record in which the input was refused: they are refused as the input was, in the same place.
+    fn refused_fields(&self, data: &[u8], reading: &Reading) -> Checked {
+        let Some(within) = &reading.within else { return Ok(()) };
+        let row = LAYOUTS.iter().position(|row| (row.kind, row.format) == (within[0], within[1])).unwrap();
+        let answered = self.reading(data, within, row)?;
+        same("fields of what was refused: code and position", &answered, &(reading.code, reading.at))
     }
 
     /// The payload, the whole and the fields of one descriptor.
@@ -181,8 +194,8 @@ impl Judge {
         same("whole: its end", &(whole.start + whole.count), &cursor.at)
     }
 
-    /// One field reading against document 01's; answers its code.
-    fn reading(&self, data: &[u8], descriptor: &Descriptor, row: usize) -> Result<u32, Difference> {
+    /// One field reading against document 01's; answers its code and position.
+    fn reading(&self, data: &[u8], descriptor: &Descriptor, row: usize) -> Result<(u32, usize), Difference> {
         let layout = &LAYOUTS[row];
         let name = format_args!("fields of {}/{}", layout.kind, layout.format).to_string();
         let (outcome, values) = self.library.read(row, data, descriptor);
@@ -193,7 +206,7 @@ impl Judge {
         } else {
             same(&format!("{name}: zero on a refusal"), &values.iter().all(Value::is_zero), &true)?;
         }
-        Ok(expected.0)
+        Ok((outcome.code, outcome.at))
     }
 
     /// A descriptor that is not one of the input's: another range, another kind, or another call; and another first byte, which no
@@ -217,7 +230,7 @@ impl Judge {
             9 => changed[3] = (data.len() as u32).wrapping_sub(changed[2]).wrapping_add(pick as u32 / 11 % 2),
             _ => row = pick / 11 % LAYOUTS.len(),
         }
-        let code = self.reading(data, &changed, row)?;
+        let (code, _) = self.reading(data, &changed, row)?;
         self.tally.reach(Key::FieldCode(code));
         let inside = changed[2] as usize + changed[3] as usize <= data.len();
         let expected = if inside { (changed[2] as usize, changed[3] as usize) } else { (0, 0) };
@@ -252,7 +265,7 @@ impl Judge {
 
     /// The library against the crate, as far as the input lies in the domain; what lies outside is counted, and brought inside.
     fn against(&mut self, data: &[u8], reading: &Reading, crates: &Theirs, run: bool) -> Checked {
-        let code = crates.as_ref().map_or_else(|code| *code, |_| 0);
+        let code = crates.as_ref().map_or_else(|refused| refused.code, |_| 0);
         same("the crate's refusal has no code in document 01", &(code == u32::MAX), &false)?;
         if reading.code == 1 {
             self.tally.reach(Key::Long(code));
@@ -263,14 +276,14 @@ impl Judge {
             return self.made_shallow(data, reading, run);
         }
         if reading.opened.is_empty() {
-            return self.equal(data, crates, run);
+            return self.equal(data, reading, crates, run);
         }
         if run {
             return self.inside(data, reading, true);
         }
         self.tally.reach(Key::OpenedAnswer(reading.code, code));
         match (reading.code, code) {
-            (0, 0) => self.equal(data, crates, false)?,
+            (0, 0) => self.equal(data, reading, crates, false)?,
             // What the crate opens it may refuse; it reads on where document 01 does, so it accepts nothing more.
             (_, 0) => same("outside: code", &reading.code, &code)?,
             _ => {}
@@ -296,20 +309,30 @@ impl Judge {
         Ok(())
     }
 
-    fn equal(&self, data: &[u8], crates: &Theirs, run: bool) -> Checked {
-        let of = if run { "run" } else { "decode" };
+    fn equal(&mut self, data: &[u8], reading: &Reading, crates: &Theirs, run: bool) -> Checked {
+        let of = if run { "run and the crate" } else { "decode and the crate" };
         let ours = self.call(data, data.len() / 4 * DESCRIPTOR_WORDS, run)?;
         let datagrams = match crates {
             Ok(datagrams) => datagrams,
-            Err(code) => return same(&format!("{of} and the crate: code"), &ours.answer.0, code),
+            Err(refused) => return self.equal_refusal(of, &ours, reading, refused),
         };
-        same(&format!("{of} and the crate: code"), &ours.answer.0, &0)?;
+        same(&format!("{of}: code"), &ours.answer.0, &0)?;
         let nodes = structure::nodes(datagrams);
-        same(&format!("{of} and the crate: how many descriptors"), &ours.store.len(), &nodes.len())?;
+        same(&format!("{of}: how many descriptors"), &ours.store.len(), &nodes.len())?;
         for (descriptor, node) in ours.store.iter().zip(&nodes) {
             self.equal_node(data, descriptor, node)?;
         }
         Ok(())
+    }
+
+    /// The code, and of an ill-formed string the place in it.
+    fn equal_refusal(&mut self, of: &str, ours: &Ours, reading: &Reading, refused: &Refused) -> Checked {
+        same(&format!("{of}: code"), &ours.answer.0, &refused.code)?;
+        if refused.code != 7 {
+            return Ok(());
+        }
+        self.indexed = true;
+        refused.same_place(of, ours.answer.1, reading)
     }
 
     fn equal_node(&self, data: &[u8], descriptor: &Descriptor, node: &Node) -> Checked {

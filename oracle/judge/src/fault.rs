@@ -6,7 +6,7 @@ use crate::shape::*;
 use crate::value::Value;
 
 /// What each fault does; the first is number 1.
-pub const FAULTS: [&str; 19] = [
+pub const FAULTS: [&str; 21] = [
     "code 2 is given four bytes too late",
     "an accepted datagram has a step too many",
     "the header's sequence number has its bytes turned round",
@@ -26,6 +26,8 @@ pub const FAULTS: [&str; 19] = [
     "a record's first byte is its payload's",
     "a PDU's first byte is the one behind its count word",
     "all of a record lacks its pad",
+    "code 7 is given at the first byte of the word that it is in",
+    "a field reading gives code 7 one byte too late",
 ];
 
 pub struct Library {
@@ -55,7 +57,10 @@ impl Library {
     }
 
     pub fn read(&self, row: usize, data: &[u8], descriptor: &Descriptor) -> (Outcome, Vec<Value>) {
-        let (outcome, mut values) = library::read(row, data, descriptor);
+        let (mut outcome, mut values) = library::read(row, data, descriptor);
+        if self.fault == 21 && outcome.code == 7 {
+            outcome.at += 1;
+        }
         if self.fault == 11 && row == 9 {
             values.swap(2, 3);
         }
@@ -108,6 +113,7 @@ impl Library {
             (15, 0) => spoil(store, written, |[_, format, ..]| *format &= 0xfff),
             (17, 0) => spoil_firsts(store, written, &[FLOW, COUNTER]),
             (18, 0) => spoil_firsts(store, written, &[PDU]),
+            (20, 7) => answer.at &= !3,
             _ => {}
         }
     }

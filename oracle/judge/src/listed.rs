@@ -1,7 +1,7 @@
 //! The differences outside the domain that docs/DIFFERENCES.md lists: each input with what document 01 and the crate give, as a datagram
 //! and as a run. That each of them is a row of that document, with the same answers, is checked by tests/differences/run.
 
-use crate::compare::theirs;
+use crate::compare::{reading_of, theirs};
 use crate::fault::Library;
 use crate::shape::{AGGREGATION, DESCRIPTOR_WORDS, MAX_DEPTH, MAX_INPUT};
 use crate::tally::{same, Checked, Tally};
@@ -125,9 +125,12 @@ fn check_row(row: &Row, library: &Library) -> Checked {
     let name = |part: &str| format!("listed, {}: {part}", row.what);
     same(&name("code and position"), &(ours.code, ours.at), &row.ours)?;
     same(&name("code and position as a run"), &(run.code, run.at), &row.ours_run)?;
-    let crates = theirs(&row.input, false).map_or_else(|code| code, |_| 0);
+    let [one, run] = [false, true].map(|run| reading_of(&row.input, run));
+    same(&name("document 01's code and position"), &(one.code, one.at), &row.ours)?;
+    same(&name("document 01's code and position as a run"), &(run.code, run.at), &row.ours_run)?;
+    let crates = theirs(&row.input, false).map_or_else(|refused| refused.code, |_| 0);
     same(&name("the crate's code"), &crates, &row.crates)?;
-    let crates = theirs(&row.input, true).map_or_else(|code| (code, 0), |all| (0, all.len()));
+    let crates = theirs(&row.input, true).map_or_else(|refused| (refused.code, 0), |all| (0, all.len()));
     same(&name("the crate's code and datagrams as a run"), &crates, &row.crates_run)
 }
 

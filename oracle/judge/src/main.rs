@@ -1,7 +1,7 @@
 //! Compares the library with the crate; see ../../run.
 
 use judge::tally::Tally;
-use judge::{compare, fault, library, listed, make, stored, sweep, work};
+use judge::{compare, fault, library, listed, make, stored, strings, sweep, work};
 use std::path::{Path, PathBuf};
 use std::process::exit;
 
@@ -85,7 +85,7 @@ fn main() {
         ["--listed"] => return listed::show(),
         ["--list-faults"] => return fault::FAULTS.iter().for_each(|what| println!("{what}")),
         ["--every-byte"] => sweep::every_byte(fault),
-        ["--strings"] => sweep::strings(fault),
+        ["--strings"] => strings::all(fault),
         ["--long"] => sweep::long(fault),
         ["--input", bytes] => {
             let input = hex(bytes);
@@ -115,6 +115,7 @@ fn main() {
 fn report(tally: Tally, listed: Tally, must_reach: bool) {
     tally.print_reached();
     println!("accepted: {} of {}, {} bytes on average", tally.accepted, tally.cases, tally.bytes / tally.cases.max(1));
+    println!("code 7: the position compared with the crate's index in {} inputs", tally.indexed);
     let unreached = if must_reach { tally.unreached() } else { Vec::new() };
     unreached.iter().for_each(|what| println!("never reached: {what}"));
     if listed.cases > 0 {

@@ -1,6 +1,7 @@
-//! Document 01's reading, with the first bytes of document 02's §6, item by item, written from their text alone: what the crate cannot
-//! tell (positions, steps, starts, first bytes, depth 9) comes from here, and whether an input lies in the domain of equality. Where the
-//! crate can tell, both are compared with it.
+//! Document 01's reading, with the first bytes of document 02's §6 and the position of its §3 for code 7, item by item, written from
+//! their text alone: what the crate cannot tell (positions, steps, starts, first bytes, depth 9) comes from here, and whether an input
+//! lies in the domain of equality. Where the crate can tell, both are compared with it: of a position, it tells that of code 7, counted
+//! from the string's first byte.
 
 use crate::shape::*;
 use crate::value::{sixteen, Value};
@@ -19,11 +20,13 @@ pub struct Cursor<'a> {
     pub at: usize,
     end: usize,
     pub steps: usize,
+    /// Where the last string's first byte is.
+    text: usize,
 }
 
 impl<'a> Cursor<'a> {
     pub fn new(data: &'a [u8], at: usize, end: usize) -> Self {
-        Cursor { data, at, end, steps: 0 }
+        Cursor { data, at, end, steps: 0, text: 0 }
     }
 
     fn refuse<T>(&self, code: u32, at: usize) -> Read<T> {
@@ -72,12 +75,13 @@ impl<'a> Cursor<'a> {
         Ok((first + 4, length))
     }
 
+    /// A string; it is refused where the longest beginning of it that is UTF-8 ends.
     fn text(&mut self) -> Read<(usize, usize)> {
-        let first = self.at;
         let (start, length) = self.opaque()?;
-        if std::str::from_utf8(&self.data[start..start + length]).is_err() {
+        self.text = start;
+        if let Err(ill_formed) = std::str::from_utf8(&self.data[start..start + length]) {
             self.steps -= 1;
-            return self.refuse(7, first);
+            return self.refuse(7, start + ill_formed.valid_up_to());
         }
         Ok((start, length))
     }
@@ -161,6 +165,10 @@ pub struct Reading {
     pub opened: Vec<Opened>,
     /// Where the last record at the limit of depth begins: on code 8, the one in which another would begin.
     pub at_limit: usize,
+    /// Where the last string's first byte is: on code 7, the refused one's.
+    pub text: usize,
+    /// The sample or record whose field was refused.
+    pub within: Option<Descriptor>,
 }
 
 struct Reader<'a> {
@@ -278,10 +286,13 @@ impl<'a> Reader<'a> {
     }
 
     fn answer(self, code: u32, at: usize) -> Reading {
-        let accepted = code == 0;
-        let store = if accepted { self.store } else { Vec::new() };
-        let header = if accepted { self.header } else { Vec::new() };
-        Reading { code, at, steps: self.cursor.steps, store, header, place: self.place, opened: self.opened, at_limit: self.at_limit }
+        let Cursor { steps, text, .. } = self.cursor;
+        let Reader { place, opened, at_limit, .. } = self;
+        // A sample's or record's fields come before anything that is in it.
+        let in_fields = code != 0 && matches!(place, Place::Sample(_) | Place::Flow(_));
+        let within = self.store.last().copied().filter(|_| in_fields);
+        let (store, header) = if code == 0 { (self.store, self.header) } else { (Vec::new(), Vec::new()) };
+        Reading { code, at, steps, store, header, place, opened, at_limit, text, within }
     }
 }
 

@@ -1,6 +1,7 @@
 //! Inputs with their answers, for a program that replays them where no Rust is at hand: crates/replay. What the crate tells (acceptance,
-//! the kind of refusal, the header, each descriptor's kind, format, parent and depth, the payload of what is kept raw) is the crate's;
-//! positions, steps, ranges, first bytes and depth 9 are document 01's reading. The library has no part in them.
+//! the kind of refusal, where in a string it stops being UTF-8, the header, each descriptor's kind, format, parent and depth, the payload
+//! of what is kept raw) is the crate's; other positions, steps, ranges, first bytes and depth 9 are document 01's reading. The library has
+//! no part in them.
 
 use crate::compare::{brought_inside, reading_of, theirs, Judge};
 use crate::make;
@@ -62,8 +63,11 @@ fn agreed(data: &[u8], run: bool) -> Result<Answer, Difference> {
             let header = if run { Vec::new() } else { header(&datagrams[0]) };
             Ok(Answer { reading, header })
         }
-        Err(code) => {
-            same("document 01 and the crate: code", &reading.code, &code)?;
+        Err(refused) => {
+            same("document 01 and the crate: code", &reading.code, &refused.code)?;
+            if reading.code == 7 {
+                refused.same_place("document 01 and the crate", reading.at, &reading)?;
+            }
             Ok(Answer { reading, header: Vec::new() })
         }
     }

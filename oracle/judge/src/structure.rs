@@ -5,7 +5,6 @@ use crate::value::{sixteen, Value};
 use sflow_parser::models::core::{Address, CounterData, CounterRecord, DropReason, FlowData, FlowRecord, SFlowDatagram};
 use sflow_parser::models::core::{SampleData, SampleRecord};
 use sflow_parser::models::record_flows::{AsPathSegment, HeaderProtocol, UrlDirection};
-use sflow_parser::parsers::ParseError;
 
 /// A field as the crate holds it.
 pub enum Held<'a> {
@@ -33,22 +32,6 @@ pub struct Node<'a> {
     pub held: Vec<Held<'a>>,
     /// The crate opened it and document 01 does not.
     pub opened: bool,
-}
-
-/// Document 01's code for a refusal of the crate.
-pub fn code_of(error: &ParseError) -> u32 {
-    const TEXTS: [(&str, u32); 5] = [
-        ("Invalid version", 3),
-        ("Invalid address type", 4),
-        ("Opaque data length", 5),
-        ("Unknown header protocol", 6),
-        ("Invalid UTF-8 string", 7),
-    ];
-    match error {
-        ParseError::Io(e) if e.kind() == std::io::ErrorKind::UnexpectedEof => 2,
-        ParseError::Io(_) => u32::MAX,
-        ParseError::InvalidData(text) => TEXTS.iter().find(|(begin, _)| text.starts_with(begin)).map_or(u32::MAX, |known| known.1),
-    }
 }
 
 /// An address as a field reading answers it.

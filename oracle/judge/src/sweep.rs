@@ -44,40 +44,7 @@ pub fn every_byte(fault: u32) -> Tally {
     })
 }
 
-/// Bytes at the edges of what UTF-8 allows in each place of a character.
-const EDGES: [u8; 26] = [
-    0x00, 0x41, 0x7f, 0x80, 0x8f, 0x90, 0x9f, 0xa0, 0xbf, 0xc0, 0xc1, 0xc2, 0xdf, 0xe0, 0xe1, 0xec, 0xed, 0xee, 0xef, 0xf0, 0xf1, 0xf3,
-    0xf4, 0xf5, 0xf8, 0xff,
-];
-
-/// Every string of one to four of these bytes, behind none to eleven letters; and each of them in the middle of a long text too.
-pub fn strings(fault: u32) -> Tally {
-    let base = EDGES.len() as u64;
-    let total = base + base.pow(2) + base.pow(3) + base.pow(4);
-    let around = "\u{e9}\u{65e5}\u{672c}\u{1f980}a".repeat(8);
-    work::spread(2 * total, fault, |case| {
-        let (case, around) = (case % total, if case < total { "" } else { &around });
-        let mut text = vec![b'a'; case as usize % 12];
-        text.extend_from_slice(around.as_bytes());
-        let mut rest = case;
-        loop {
-            text.push(EDGES[(rest % base) as usize]);
-            if rest < base {
-                break;
-            }
-            rest = rest / base - 1;
-        }
-        text.extend_from_slice(around.as_bytes());
-        let length = text.len() as u32;
-        text.resize(text.len().next_multiple_of(4), 0xff);
-        text.extend_from_slice(&[0; 8]);
-        let record = 4 + text.len() as u32;
-        let head = words(&[5, 0, 0, 1, 0, 1, 1, 40 + record, 0, 0, 0, 0, 0, 0, 0, 1, 1008, record, length]);
-        [head, text].concat()
-    })
-}
-
-fn words(of: &[u32]) -> Vec<u8> {
+pub fn words(of: &[u32]) -> Vec<u8> {
     of.iter().flat_map(|word| word.to_be_bytes()).collect()
 }
 
@@ -106,6 +73,12 @@ fn filled(head: &[u32], unit: &[u8], tail: &[u32], length: usize) -> Vec<u8> {
     bytes
 }
 
+/// The same with a lead byte for its last one.
+fn last_wrong(mut input: Vec<u8>) -> Vec<u8> {
+    *input.last_mut().expect("a long input has bytes") = b'\xf4';
+    input
+}
+
 /// Long inputs, each of its own shape.
 fn long_inputs(length: usize) -> Vec<(&'static str, Vec<u8>)> {
     const HEAD: [u32; 6] = [5, 0, 0, 1, 0, 1];
@@ -122,7 +95,12 @@ fn long_inputs(length: usize) -> Vec<(&'static str, Vec<u8>)> {
         ("a sampled header", filled(&flow(1, &[1, 0, 0, BYTES]), b"\xff\xfe\x00\x01", &[], length)),
         ("a string of ASCII", filled(&flow(1008, &[BYTES]), b"abcd", &[7, 8], length)),
         ("a string of four-byte characters", filled(&flow(1005, &[1, 0, BYTES]), character, &[], length)),
-        ("a string with its last byte wrong", filled(&flow(1008, &[BYTES]), b"abc\xff", &[7, 8], length)),
+        ("a string with every fourth byte wrong", filled(&flow(1008, &[BYTES]), b"abc\xff", &[7, 8], length)),
+        ("a string of ASCII with its last byte wrong", last_wrong(filled(&flow(1005, &[1, 0, BYTES]), b"abcd", &[], length))),
+        (
+            "a string of four-byte characters with its last byte wrong",
+            last_wrong(filled(&flow(1005, &[1, 0, BYTES]), character, &[], length)),
+        ),
         ("a list", filled(&flow(1012, &[UNITS]), &words(&[7]), &[], length)),
         ("an AS path", filled(&flow(1003, &[0, 1, 2, 3, UNITS]), &words(&[2, 0]), &[1, 8, 9], length)),
         ("PDUs", filled(&flow(AGGREGATION, &[UNITS]), &words(&[0]), &[], length)),

@@ -65,6 +65,8 @@ pub struct Tally {
     pub cases: u64,
     pub accepted: u64,
     pub differ: u64,
+    /// How many had a position of code 7 compared with the crate's index.
+    pub indexed: u64,
     pub bytes: u64,
     reached: BTreeMap<Key, u64>,
     differences: BTreeMap<String, Seen>,
@@ -103,6 +105,7 @@ impl Tally {
         self.cases += other.cases;
         self.accepted += other.accepted;
         self.differ += other.differ;
+        self.indexed += other.indexed;
         self.bytes += other.bytes;
         for (key, count) in other.reached {
             *self.reached.entry(key).or_insert(0) += count;
@@ -138,7 +141,8 @@ impl Tally {
     /// What must be reached by a large number of cases, and was not.
     pub fn unreached(&self) -> Vec<String> {
         let missing = required().into_iter().filter(|key| !self.reached.contains_key(key));
-        missing.map(named).map(|(of, what)| format!("{of} {what}")).collect()
+        let unindexed = (self.indexed == 0).then(|| "position of code 7 compared with the crate's index".to_string());
+        missing.map(named).map(|(of, what)| format!("{of} {what}")).chain(unindexed).collect()
     }
 }
 

@@ -1,25 +1,26 @@
--- `xdr::utf8::is_utf8` meets its contract. The loop's invariant: what is left decides as the whole does. Assumes nothing.
+-- `xdr::utf8::well_formed` meets its contract. The loop's invariant: what is left goes bad where the whole does. Assumes nothing.
 use Prim.Native.Nat.{_-_, _≤_}
 use mathlib.Core.Path.{_≡_}
 use native.Mathlib.Omega.{arith}
 use borrow.Author.Needs.{needs}
-use lib.ListN.{length, drop}
-use Rattle.reading.specs.Utf8.{utf8}
+use lib.ListN.{length}
+use Rattle.reading.specs.Utf8.{well-formed}
+use Rattle.reading.proofs.Utf8Longest.{ends}
 use Rattle.reading.proofs.Utf8Places.{all-passed, run-passed, run-room, run-less, sequence-passed, none-there}
 use Rattle.xdr.proofs.Texts.{text-same, text-inside, text-room, text-fits, text-less}
-use Rattle.xdr.proofs.utf8.is_utf8.Statement.{statement}
-use Rattle.xdr.proofs.utf8.is_utf8.Tie as tie
+use Rattle.xdr.proofs.utf8.well_formed.Statement.{statement}
+use Rattle.xdr.proofs.utf8.well_formed.Tie as tie
 
 abbrev Inv-loop : tie.InvT-loop
-Inv-loop s at₀ at = (at ≤ length s) × (utf8 (drop at s) ≡ utf8 s)
+Inv-loop s at₀ at = (at ≤ length s) × (ends s at ≡ well-formed s)
 
 abbrev μ-loop : tie.MeasureT-loop
 μ-loop s at₀ at = length s - at
 
 ruleset passing = (all-passed, run-passed, run-room, run-less, sequence-passed, none-there, text-same, text-inside, text-room, text-fits, text-less, needs)
 
-pub is-utf8-spec : {M : Type 1} → statement M
-is-utf8-spec =
+pub well-formed-spec : {M : Type 1} → statement M
+well-formed-spec =
     tie.close
     (tie.spec
     Inv-loop
