@@ -1,4 +1,4 @@
-"""The walk held to the oracle and to the library, input by input."""
+"""The walk held to the oracle and to the library, input by input; and where strings go bad, both held to Rust's from_utf8."""
 import glob
 import os
 import random
@@ -14,7 +14,7 @@ from shapes import CUT_KINDS, EVERY_KIND, P2, P3, P4, P5, P6, P7, P9, P11, P12, 
 
 SESSIONS = [b"", P2, P3, P4, P5, P6, P7, P9, P11, P12, P12_DEEPER, P13, P9 + P2 + P11, P9 + P3]
 # how the walk is compiled for a comparison with the library, and up to which length an input, its cuts and its changed bytes are tried
-HELD = (("check", making.RELEASE, "as it is measured", 2000), ("check-checked", making.CHECKED, "every access checked", 400))
+HELD = (("", making.RELEASE, "as it is measured", 2000), ("-checked", making.CHECKED, "every access checked", 400))
 # what the oracle tries, at each run and where all is asked for
 SOME = (["200000", "1"], ["--strings"])
 ALL = (["2000000", "2"], ["--strings"], ["--every-byte"], ["--long"])
@@ -38,6 +38,14 @@ def strings():
             yield with_record(1008, opaque(text[:length]) + b"\x80" * 8)
 
 
+def texts():
+    """Texts for the place where a string goes bad: of characters of one length, and of all; short ones at every place, and a long one."""
+    for character in "aü€🦀":
+        yield (character * 140).encode()[:140]
+    yield ("aü€🦀" * 14).encode()
+    yield workloads.mixed_text(random.Random(7), 400)
+
+
 def captures():
     for path in sorted(glob.glob(os.path.join(paths.ROOT, "tests", "captures", "*", "*.bin"))):
         with open(path, "rb") as f:
@@ -56,14 +64,14 @@ def inputs():
         yield from case.inputs[:1]
 
 
-def compared(program, longest):
-    """What check.c prints over the inputs; Failed where the walk differs."""
-    sent = b"".join(struct.pack("<I", len(data)) + data for data in inputs() if len(data) <= longest)
+def compared(program, inputs, wrong):
+    """What a program that compares prints over the inputs; Failed, with what is wrong then, where something differs."""
+    sent = b"".join(struct.pack("<I", len(data)) + data for data in inputs)
     ran = subprocess.run([program], input=sent, capture_output=True, env={**os.environ, "ASAN_OPTIONS": "detect_leaks=0"})
     said = (ran.stdout + ran.stderr).decode("utf-8", "replace").strip()
     if ran.returncode:
         access = next((line for line in said.split("\n") if "ERROR" in line or "runtime error" in line), said)
-        raise making.Failed("the walk is not the library's equal: " + access)
+        raise making.Failed(wrong + access)
     return said.split("\n")[-1]
 
 
@@ -79,7 +87,11 @@ def judged(judge, words):
 def check(by_oracle):
     """A line for each comparison; Failed at the first that is not as it must be."""
     for name, options, how, longest in HELD:
-        yield f"walk against the library, {how}: {compared(making.check(options, name), longest)}"
+        short = [data for data in inputs() if len(data) <= longest]
+        said = compared(making.check(options, "check" + name), short, "the walk is not the library's equal: ")
+        yield f"walk against the library, {how}: {said}"
+        said = compared(making.texts(options, "texts" + name), texts(), "a string does not go bad where Rust's from_utf8 has it: ")
+        yield f"walk and library against from_utf8, where strings go bad, {how}: {said}"
     judge = making.judge()
     for words in by_oracle:
         yield f"walk against the oracle, {' '.join(words)}: {judged(judge, words)}"

@@ -5,10 +5,10 @@
 #include "layouts.h"
 #include "walk.h"
 
-/* bench/crate/src/lib.rs: how many datagrams were read, 0 on a refusal; and the standard library's test. */
+/* bench/crate/src/lib.rs: how many datagrams were read, 0 on a refusal; and the bytes before the first ill-formed sequence. */
 size_t crate_datagram(const uint8_t *data, size_t length);
 size_t crate_datagrams(const uint8_t *data, size_t length);
-bool std_is_utf8(const uint8_t *data, size_t length);
+size_t std_well_formed(const uint8_t *data, size_t length);
 
 static latchplume_answer library(const struct input *in, uint32_t *store) {
     if (in->run)
@@ -89,11 +89,21 @@ static uint64_t fields(const struct input *in) {
     return sum;
 }
 
-/* The string of an input that holds one, in the one record of format 1008 of its one sample: its length word is at byte 72. */
+/* An input that holds one string has it in the one record of format 1008 of its one sample: where both are counted, where the format is,
+   the string's length word, and its first byte. */
+enum { AT_SAMPLES = 20, AT_RECORDS = 60, AT_FORMAT = 64, AT_LENGTH = 72, AT_TEXT = 76 };
+
+static size_t word_at(const struct input *in, size_t at) {
+    const uint8_t *word = in->data + at;
+    return (size_t)word[0] << 24 | (size_t)word[1] << 16 | (size_t)word[2] << 8 | word[3];
+}
+
+static bool holds_one_string(const struct input *in) {
+    return in->length >= AT_TEXT && word_at(in, AT_SAMPLES) == 1 && word_at(in, AT_RECORDS) == 1 && word_at(in, AT_FORMAT) == 1008;
+}
+
 static uint64_t standard(const struct input *in) {
-    const uint8_t *word = in->data + 72;
-    size_t length = (size_t)word[0] << 24 | (size_t)word[1] << 16 | (size_t)word[2] << 8 | word[3];
-    return std_is_utf8(word + 4, length);
+    return std_well_formed(in->data + AT_TEXT, word_at(in, AT_LENGTH));
 }
 
 const struct contestant CONTESTANTS[] = {
@@ -118,6 +128,14 @@ static size_t datagrams_of(const uint32_t *store, latchplume_answer answer) {
     return count;
 }
 
+/* Whether an input's one string is UTF-8 to the standard library where it is accepted, and else goes bad where it is refused. */
+static bool same_string(const struct input *in, latchplume_answer answer) {
+    size_t good = standard(in);
+    if (good == word_at(in, AT_LENGTH))
+        return answer.code == LATCHPLUME_ACCEPTED;
+    return answer.code == LATCHPLUME_NOT_UTF8 && answer.at == AT_TEXT + good;
+}
+
 const char *difference(const struct input *in, uint32_t *other_store) {
     latchplume_answer one = library(in, in->store), other = walked(in, other_store);
     if (one.code != other.code || one.at != other.at || one.steps != other.steps || one.needed != other.needed)
@@ -125,5 +143,7 @@ const char *difference(const struct input *in, uint32_t *other_store) {
     size_t bytes = one.code == LATCHPLUME_ACCEPTED ? one.needed * LATCHPLUME_DESCRIPTOR_WORDS * sizeof *in->store : 0;
     if (memcmp(in->store, other_store, bytes) != 0)
         return "the walk writes other descriptors";
+    if (holds_one_string(in) && !same_string(in, one))
+        return "the standard library has the string go bad elsewhere, or not at all";
     return crate(in) == datagrams_of(in->store, one) ? NULL : "the crate accepts other datagrams";
 }

@@ -23,7 +23,7 @@ extern const size_t CONTESTANTS_COUNT;
 /* The contestant of this name, or NULL. */
 const struct contestant *contestant_of(const char *name);
 
-/* Whether library, walk and crate give the same of an input, as far as each tells: the first difference, or NULL. */
+/* Whether library, walk, crate and standard library give the same of an input, as far as each tells: the first difference, or NULL. */
 const char *difference(const struct input *in, uint32_t *other_store);
 
 #endif

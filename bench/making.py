@@ -51,6 +51,11 @@ def crate():
     return made("crate", "release")
 
 
+def with_crate():
+    """The crate's static library, and what it needs."""
+    return [os.path.join(crate(), "libbench_crate.a"), "-lpthread", "-ldl", "-lm"]
+
+
 def compiled(name, sources, libraries, options=()):
     """A program of these sources; answers its path."""
     path = made(name)
@@ -62,7 +67,7 @@ def measure(before=None):
     """The program that measures; with `before`, the path of another build's library, it has that as a contestant too."""
     tools = [os.path.join(ROOT, "tools", name) for name in ("layouts.c", "names.c")]
     sources = [at(name) for name in ("measure.c", "contestants.c", "walk.c")]
-    libraries = [library(), os.path.join(crate(), "libbench_crate.a"), "-lpthread", "-ldl", "-lm", "-Wl,-z,now"]
+    libraries = [library(), *with_crate(), "-Wl,-z,now"]
     if before is None:
         return compiled("measure", sources + tools, libraries, RELEASE)
     other = made("before", "libhost.a")
@@ -76,6 +81,10 @@ def feed():
 
 def check(options, name):
     return compiled(name, [at("check.c"), at("walk.c")], [library()], options)
+
+
+def texts(options, name):
+    return compiled(name, [at("texts.c"), at("walk.c")], [library(), *with_crate()], options)
 
 
 def judge():

@@ -3,6 +3,8 @@
    usage: measure ROUNDS NAME ...    a line for each round: nanoseconds of this thread for one unit, contestant by contestant
           measure --count NAME       under callgrind, which is told to count one pass over the inputs, behind one that is not counted
 
+   A NAME is a contestant's, or that and a colon and a number for the contestant over that input alone, the first being 0.
+
    A case is four words: 1 for runs or 0 for datagrams, 1 where each input has a store of its own, how many units a pass is divided by,
    and how many inputs follow, each behind a word with its length. */
 #include <stdio.h>
@@ -17,9 +19,10 @@
 enum { ALIGN = 64, MOST_CONTESTANTS = 8 };
 static const double LEAST = 20e6; /* nanoseconds that a measurement takes at least, so that the clock's own do not show */
 
+/* A contestant, the first of its inputs and the end of them. */
 struct measured {
     const struct contestant *who;
-    size_t turns;
+    size_t first, end, turns;
     double ns;
 };
 
@@ -85,9 +88,10 @@ static void compare(void) {
     free(other.store);
 }
 
-static void pass(const struct contestant *who) {
+static void pass(const struct measured *one) {
+    const struct contestant *who = one->who;
     uint64_t sum = 0;
-    for (size_t i = 0; i < count; i++)
+    for (size_t i = one->first; i < one->end; i++)
         sum += who->once(&inputs[i]);
     sink = sum;
 }
@@ -98,30 +102,37 @@ static double now(void) {
     return (double)t.tv_sec * 1e9 + (double)t.tv_nsec;
 }
 
-static double timed(const struct contestant *who, size_t turns) {
+static double timed(const struct measured *one, size_t turns) {
     double start = now();
     for (size_t turn = 0; turn < turns; turn++)
-        pass(who);
+        pass(one);
     return (now() - start) / (double)turns / (double)units;
 }
 
-static const struct contestant *named(const char *name) {
-    const struct contestant *who = contestant_of(name);
-    if (who == NULL)
-        stop("no contestant has this name");
-    return who;
+static struct measured named(char *name) {
+    struct measured one = {.end = count};
+    char *number = strchr(name, ':');
+    if (number != NULL) {
+        *number++ = '\0';
+        one.first = strtoul(number, NULL, 10);
+        one.end = one.first + 1;
+    }
+    one.who = contestant_of(name);
+    if (one.who == NULL || one.end > count)
+        stop("no contestant has this name, or no input this number");
+    return one;
 }
 
 /* Each contestant once a round, in an order that rotates, and turns around every other round. */
 static void measure(int rounds, struct measured *all, size_t n) {
     for (size_t i = 0; i < n; i++) {
-        pass(all[i].who);
-        all[i].turns = 1 + (size_t)(LEAST / (timed(all[i].who, 1) * (double)units));
+        pass(&all[i]);
+        all[i].turns = 1 + (size_t)(LEAST / (timed(&all[i], 1) * (double)units));
     }
     for (size_t round = 0; round < (size_t)rounds; round++) {
         for (size_t k = 0; k < n; k++) {
             struct measured *one = &all[(round + (round % 2 ? n - k : k)) % n];
-            one->ns = timed(one->who, one->turns);
+            one->ns = timed(one, one->turns);
         }
         for (size_t i = 0; i < n; i++)
             printf("%.3f%c", all[i].ns, i + 1 < n ? ' ' : '\n');
@@ -133,17 +144,17 @@ int main(int argc, char **argv) {
     struct measured all[MOST_CONTESTANTS];
     if (argc < 3 || argc - 2 > MOST_CONTESTANTS)
         stop("usage: measure ROUNDS NAME ... | --count NAME");
-    for (int i = 2; i < argc; i++)
-        all[i - 2].who = named(argv[i]);
     read_case();
+    for (int i = 2; i < argc; i++)
+        all[i - 2] = named(argv[i]);
     if (strcmp(argv[1], "--count") != 0) {
         compare();
         measure(atoi(argv[1]), all, (size_t)argc - 2);
         return 0;
     }
-    pass(all[0].who);
+    pass(&all[0]);
     CALLGRIND_TOGGLE_COLLECT;
-    pass(all[0].who);
+    pass(&all[0]);
     CALLGRIND_TOGGLE_COLLECT;
     return 0;
 }

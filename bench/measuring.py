@@ -34,6 +34,12 @@ def times(program, case, names):
     return dict(zip(names, map(median, zip(*rounds(program, case, names)))))
 
 
+def pair(program, case, name):
+    """Of a case with two inputs, the nanoseconds of each, medians over the rounds; and the median of the second's over the first's."""
+    first, second = zip(*rounds(program, case, (f"{name}:0", f"{name}:1")))
+    return median(first), median(second), median(later / earlier for earlier, later in zip(first, second))
+
+
 def instructions(program, case, name):
     """The instructions of one pass over the case, for one unit."""
     said = ran([*CALLGRIND, program, "--count", name], case).stderr

@@ -6,6 +6,7 @@ LEAST_OF_CRATE = 10
 MOST_OF_WALK = 1.25
 MOST_OF_SIXTEEN = 17
 MOST_OF_STD = 2
+MOST_OF_ACCEPTED = 2
 
 # who, its colour, and what it is called in the picture
 SHOWN = (
@@ -28,7 +29,15 @@ def linear(cases, times, counts):
         yield ratio <= MOST_OF_SIXTEEN, said
 
 
-def targets(cases, times, counts, texts, growth):
+def refusals(endings):
+    """A string that goes bad at its end, against the same one accepted."""
+    for name, ratios in endings.items():
+        for what, ratio in ratios.items():
+            said = f"target: refused/accepted on {name} in {what} is {ratio:.2f}, at most {MOST_OF_ACCEPTED}"
+            yield ratio <= MOST_OF_ACCEPTED, said
+
+
+def targets(cases, times, counts, texts, growth, endings):
     for name in ("typical", "nested"):
         ratio = times[name]["crate"] / times[name]["ours"]
         yield ratio >= LEAST_OF_CRATE, f"target: crate/ours on {name} is {ratio:.2f}, at least {LEAST_OF_CRATE}"
@@ -40,6 +49,7 @@ def targets(cases, times, counts, texts, growth):
     for name in workloads.TEXTS:
         ratio = texts[name]["ours"] / texts[name]["std"]
         yield ratio <= MOST_OF_STD, f"target: ours/std on {name} is {ratio:.2f}, at most {MOST_OF_STD}"
+    yield from refusals(endings)
 
 
 def duration(ns):

@@ -1,5 +1,5 @@
-/* Whether bytes are well-formed UTF-8, as RFC 3629's table has it: plain ASCII by blocks; the rest by windows, in which each byte is held
-   to the three before it, so that the compiler tests them at once; and what is left by the rows of the table, each by masks. */
+/* Where bytes go bad as UTF-8, by RFC 3629's table: plain ASCII is passed by blocks; the rest by windows, in which each byte is held to the
+   three before it, so that the compiler tests them at once; and what is left by the rows of the table, each by masks. */
 #ifndef UTF8_H
 #define UTF8_H
 
@@ -53,16 +53,21 @@ static inline bool utf8_four(uint32_t four) {
     return (four & 0xc0c0c0f8) == 0x808080f0 && ((four & 7) << 2 | (four >> 12 & 3)) - 1 < 16;
 }
 
-/* Fewer than eight bytes, in a register. */
-static inline bool utf8_rest(uint64_t rest) {
+/* Where the bytes from s on go bad, which are fewer than eight and in a register; NULL where they do not. No character goes on with the
+   zero behind them. */
+static inline const uint8_t *utf8_rest(const uint8_t *s, uint64_t rest) {
     while ((rest & UTF8_HIGH) != 0) {
-        rest >>= __builtin_ctzll(rest & UTF8_HIGH) / 8 * 8;
+        unsigned plain = (unsigned)__builtin_ctzll(rest & UTF8_HIGH) / 8;
+        s += plain;
+        rest >>= 8 * plain;
         uint32_t four = (uint32_t)rest;
         if (!utf8_two(four) && !utf8_three(four) && !utf8_four(four))
-            return false;
-        rest >>= utf8_two(four) ? 16 : utf8_three(four) ? 24 : 32;
+            return s;
+        unsigned width = utf8_two(four) ? 2 : utf8_three(four) ? 3 : 4;
+        s += width;
+        rest >>= 8 * width;
     }
-    return true;
+    return NULL;
 }
 
 static inline uint8_t utf8_among(uint8_t low, uint8_t high, uint8_t byte) {
@@ -102,7 +107,8 @@ static inline const uint8_t *utf8_past_windows(const uint8_t *s, const uint8_t *
     return s;
 }
 
-static __attribute__((noinline)) bool is_utf8(const uint8_t *s, size_t n) {
+/* The first byte of the first ill-formed sequence, which is where the longest well-formed beginning ends; NULL where there is none. */
+static __attribute__((noinline)) const uint8_t *ill_formed(const uint8_t *s, size_t n) {
     const uint8_t *begin = s, *end = s + n;
     while (end - s >= 8) {
         uint64_t high = utf8_load8(s) & UTF8_HIGH;
@@ -127,10 +133,10 @@ static __attribute__((noinline)) bool is_utf8(const uint8_t *s, size_t n) {
             else if (utf8_four(four))
                 s += 4;
             else
-                return false;
+                return s;
         } while (end - s >= 4 && *s >= 0x80 && (s - begin < 3 || end - s < UTF8_WINDOW));
     }
-    return utf8_rest(utf8_load_rest(s, (size_t)(end - s)));
+    return utf8_rest(s, utf8_load_rest(s, (size_t)(end - s)));
 }
 
 #endif

@@ -17,7 +17,7 @@ enum { MAX_OPAQUE = 104857600, MAX_DEPTH = 8, WORDS_EACH = LATCHPLUME_DESCRIPTOR
 /* Steps and descriptors are counted in one number, the steps below this one's place. An input has fewer than 2^23 of either. */
 #define DESCRIPTOR ((uint64_t)1 << 23)
 
-/* The item that is refused, what was counted before it, and which rule it breaks. */
+/* The item that is refused, or where a string goes bad, what was counted before it, and which rule it breaks. */
 typedef struct refusal {
     const uint8_t *at;
     uint64_t count;
@@ -118,9 +118,16 @@ INLINE bool opaque(cursor *c) {
     return true;
 }
 
+/* An opaque that is UTF-8. One that is not is refused where it goes bad, and is not counted. */
 INLINE bool string(cursor *c) {
-    cursor before = *c;
-    return opaque(c) && (is_utf8(before.at + 4, word_at(before.at)) || refuse(&before, LATCHPLUME_NOT_UTF8));
+    const uint8_t *length = c->at;
+    if (!opaque(c))
+        return false;
+    const uint8_t *bad = ill_formed(length + 4, word_at(length));
+    if (OFTEN(bad == NULL))
+        return true;
+    *c->why = (refusal){bad, c->count - 1, LATCHPLUME_NOT_UTF8};
+    return false;
 }
 
 INLINE bool address(cursor *c) {

@@ -6,7 +6,7 @@ from collections import namedtuple
 
 import encoder
 from datagrams import typical
-from shapes import frame, flow_sample, header, opaque, with_record, words
+from shapes import frame, flow_sample, header, opaque, with_string, words
 
 MIB = 1 << 20
 LONGEST_UDP = 65535
@@ -138,7 +138,17 @@ def text_cases():
     """One string of 60,000 bytes and hardly anything else, for the UTF-8 test alone; and the same with no string, which is the rest."""
     rng = random.Random(3629)
     for name, text in {**TEXTS, "utf8-none": lambda *_: b""}.items():
-        yield one_by_one(name, [with_record(1008, opaque(text(rng, 60000)) + words(0, 0))])
+        yield one_by_one(name, [with_string(text(rng, 60000))])
+
+
+def ending_cases():
+    """For each kind of text a string that fills 16 MiB, and the same with a last byte that begins a character, which the end cuts short."""
+    rng = random.Random(3629)
+    room = 16 * MIB - len(with_string(b""))
+    for name, text in TEXTS.items():
+        part = text(rng, 60000)
+        whole = (room // len(part) * part).rjust(room, b"a")
+        yield Case(name + "-mib16", False, False, 1, [with_string(whole), with_string(whole[:-1] + b"\xe2")])
 
 
 def sent(case):

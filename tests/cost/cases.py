@@ -1,9 +1,10 @@
 """Calls, and what document 01 has them answer and leave in the store: each expected word is the document's own, or follows from its rule
-for descriptors and, for the first byte, from §6 of document 02."""
+for descriptors and, for the first byte and for where a string goes bad, from §6 and §3 of document 02."""
 from collections import namedtuple
 
 from long import LONG
-from shapes import CUT_KINDS, EVERY_KIND, IPV6, P2, P3, P4, P6, P7, P9, P11, P12, P12_DEEPER, P13, counter_sample, frame, header, words
+from shapes import (
+    CUT_KINDS, EVERY_KIND, IPV6, P2, P3, P4, P6, P7, P9, P11, P12, P12_DEEPER, P13, counter_sample, frame, header, with_string, words)
 
 NOBODY = 4294967295
 DESCRIPTOR_WORDS = 7
@@ -42,6 +43,11 @@ WITH_COUNTERS = Session(header(1) + counter_sample(2, 2 * frame(4097, b"\1")), o
 
 # a malformed datagram, its code, position and steps
 MALFORMED = [(P3, 3, 0, 0), (P4, 4, 4, 1), (P6, 2, 28, 7), (P7, 5, 28, 7), (P12_DEEPER, 8, 192, 48), (P13, 6, 72, 18)]
+# strings that are not UTF-8, and how many of their bytes are before the first ill-formed sequence
+ILL_FORMED = [
+    (b"\xff", 0), (b"\xe2\x28\xa1", 0), (b"plain\xc3", 5), (b"\xf0\x9f\xa6\x80\xf0\x9f\xa6", 4), (80 * b"\xc3\xbc" + b"\xed\xa0\x80", 160),
+]
+MALFORMED += [(with_string(data), 7, 76 + good, 18) for data, good in ILL_FORMED]
 
 
 def accepted(session, call, room):

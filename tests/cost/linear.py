@@ -1,7 +1,8 @@
 """Cost by length: instructions, which callgrind counts, and times.
 
 The time for 16 MiB is held against that for 1 MiB in one place, which stays in the caches, and against 1 MiB of the same memory, as one of
-sixteen inputs side by side. A string is nothing but bytes to look at, at a speed that the memory gives: it is judged by the same memory."""
+sixteen inputs side by side. A string is nothing but bytes to look at, at a speed that the memory gives: it is judged by the same memory.
+One that goes bad at its end is held against the same one accepted: what it costs to tell the place."""
 import os
 import re
 import struct
@@ -10,11 +11,12 @@ from concurrent.futures import ThreadPoolExecutor
 from statistics import median
 
 import build
-from long import LISTS, LONG, STRINGS
+from long import ENDINGS, LISTS, LONG, STRINGS
 from shapes import KINDS, with_record
 
 MIB = 1 << 20
 MOST = 17
+MOST_OF_ACCEPTED = 2
 ROUNDS = 7
 CALLGRIND = ["valgrind", "--tool=callgrind", "--collect-atstart=no", "--callgrind-out-file=/dev/null"]
 
@@ -23,14 +25,15 @@ def sent(*inputs):
     return b"".join(struct.pack("<I", len(data)) + data for data in inputs)
 
 
-def instructions(command, call, code, data):
-    """The instructions of one call, which answers this code at the input's end."""
+def instructions(command, call, code, data, at=None):
+    """The instructions of one call, which answers this code at this place, or at the input's end."""
+    at = len(data) if at is None else at
     ran = subprocess.run([*CALLGRIND, *command, call], input=sent(data), capture_output=True)
     counted = re.search(rb"Collected : (\d+)", ran.stderr)
     if ran.returncode or not counted:
         build.fail("callgrind counted nothing: " + ran.stderr.decode("utf-8", "replace").strip().split("\n")[-1])
-    if ran.stdout.split() != [b"%d" % code, b"%d" % len(data)]:
-        build.fail(f"a call over {len(data)} bytes answers {ran.stdout.decode().strip()}, not {code} at their end")
+    if ran.stdout.split() != [b"%d" % code, b"%d" % at]:
+        build.fail(f"a call over {len(data)} bytes answers {ran.stdout.decode().strip()}, not {code} at {at}")
     return int(counted.group(1))
 
 
@@ -63,6 +66,19 @@ def long_figures(count, pool, timed):
         yield ratio_found <= MOST and met, f"16 MiB over 1 MiB, {name}: {text}"
 
 
+def ending_figures(count, pool):
+    """Strings that go bad at their end, over the same ones accepted."""
+    def both(case):
+        _, shape, bad = case
+        data = shape(16 * MIB)
+        at = len(data) - 8 - len(bad)  # two words are behind the string
+        return instructions(count, "decode", 0, data), instructions(count, "decode", 7, data[:at] + bad + data[-8:], at)
+
+    for (name, _, _), (accepted, refused) in zip(ENDINGS, pool.map(both, ENDINGS)):
+        text = f"{refused / accepted:.2f} in instructions ({refused} and {accepted}), at most {MOST_OF_ACCEPTED}"
+        yield refused <= MOST_OF_ACCEPTED * accepted, f"a string of 16 MiB refused at its end over accepted, {name}: {text}"
+
+
 def list_figures(count, pool):
     def both(case):
         return [instructions(count, "decode", 0, case[1](n)) for n in (10, 1000000)]
@@ -77,4 +93,5 @@ def figures(timed):
     count = build.program("count")
     with ThreadPoolExecutor(os.cpu_count()) as pool:
         yield from list_figures(count, pool)
+        yield from ending_figures(count, pool)
         yield from long_figures(count, pool, timed)

@@ -1,5 +1,5 @@
 """Long inputs of one shape, by their size: a function answers at most so many bytes."""
-from shapes import MOST, P2, P9, aggregations, counter_sample, flow_sample, frame, header, opaque, with_record, words
+from shapes import MOST, P2, P9, aggregations, counter_sample, flow_sample, frame, header, with_record, with_string, words
 
 RAW = words(4097, 0)
 
@@ -41,7 +41,7 @@ def list_words(count, units):
 
 
 def string(_, units):
-    return with_record(1008, opaque(units) + words(0, 0))
+    return with_string(units)
 
 
 def datagrams(_, units):
@@ -73,6 +73,13 @@ LONG = [
 
 # of these, the ones that are a single string
 STRINGS = ("a string of ASCII", "a string of two-byte characters")
+
+# a string of one shape, and its end that is ill-formed from the first byte on: a wrong byte, a character cut by the end, one cut by another
+ENDINGS = [
+    ("ASCII", filled(string, b"text"), b"\xff"),
+    ("two-byte characters", filled(string, "\u00fc\u00fc".encode()), b"\xe2\x82"),
+    ("characters of one to four bytes", filled(string, 2 * "a\u00fc\u20ac\U0001f980".encode()), b"\xf0\x9f\xa6("),
+]
 
 # for each place where a layout has a list: a datagram whose list has so many words
 LISTS = [

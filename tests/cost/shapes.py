@@ -40,6 +40,11 @@ def with_record(form, data):
     return header(1) + flow_sample(1, frame(form, data))
 
 
+def with_string(data):
+    """A datagram with one string, whose bytes begin at byte 76, and two words behind it."""
+    return with_record(1008, opaque(data) + words(0, 0))
+
+
 def with_aggregations(depth, count, records):
     return header(1) + flow_sample(1, aggregations(depth, count, records))
 

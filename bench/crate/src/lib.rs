@@ -27,9 +27,11 @@ pub unsafe extern "C" fn crate_datagrams(data: *const u8, length: usize) -> usiz
     black_box(parse_datagrams(bytes(data, length))).map_or(0, |all| all.len())
 }
 
+/// The bytes before the first ill-formed sequence; all of them where they are UTF-8.
+///
 /// # Safety
 /// As for `bytes`.
 #[no_mangle]
-pub unsafe extern "C" fn std_is_utf8(data: *const u8, length: usize) -> bool {
-    std::str::from_utf8(bytes(data, length)).is_ok()
+pub unsafe extern "C" fn std_well_formed(data: *const u8, length: usize) -> usize {
+    std::str::from_utf8(bytes(data, length)).map_or_else(|bad| bad.valid_up_to(), str::len)
 }
