@@ -8,10 +8,10 @@ ghost use Rattle.flows.specs.Chain.{Within, Ends};
 use crate::next;
 use crate::next::Kind;
 use crate::sampled;
+use utf8;
 use xdr::Cursor;
 use xdr::Part;
 use xdr::Passed;
-use xdr::utf8;
 
 // How far it was passed.
 pub struct Row {

@@ -1,7 +1,5 @@
 pub mod Utf8
 pub mod Utf8Longest
-pub mod Utf8Places
-pub mod Utf8Bytes
 pub mod Items
 pub mod Opaques
 pub mod Fields

@@ -7,7 +7,6 @@ mod addresses;
 mod blocks;
 pub mod load;
 mod opaques;
-pub mod utf8;
 mod words;
 
 // The longest opaque, as the crate has it.

@@ -9,7 +9,7 @@ use crate::Part;
 use crate::Span;
 use crate::Word;
 use crate::load;
-use crate::utf8;
+use utf8;
 
 impl Cursor {
     pub fn read_opaque(self, s: &[u8]) -> Part

@@ -6,8 +6,8 @@ use std::path::{Path, PathBuf};
 use std::process::exit;
 
 const USAGE: &str =
-    "usage: judge N SEED | --every-byte | --strings | --long | --input HEX | --files PATH... | --store SEED INTO PATH... | --c-checks |
-       --list-faults, each with [--fault K]";
+    "usage: judge N SEED | --every-byte | --strings | --every-string | --long | --input HEX | --files PATH... |
+       --store SEED INTO PATH... | --c-checks | --list-faults, each with [--fault K]";
 
 /// From so many cases on, every format, code and class must have been reached.
 const ENOUGH: u64 = 100_000;
@@ -86,6 +86,7 @@ fn main() {
         ["--list-faults"] => return fault::FAULTS.iter().for_each(|what| println!("{what}")),
         ["--every-byte"] => sweep::every_byte(fault),
         ["--strings"] => strings::all(fault),
+        ["--every-string"] => strings::every(fault),
         ["--long"] => sweep::long(fault),
         ["--input", bytes] => {
             let input = hex(bytes);

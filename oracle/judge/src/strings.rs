@@ -149,3 +149,30 @@ pub fn all(fault: u32) -> Tally {
         })
     })
 }
+
+/// The first bytes of characters of four bytes, and their neighbours.
+const FOUR: [u8; 7] = [0xef, 0xf0, 0xf1, 0xf2, 0xf3, 0xf4, 0xf5];
+
+/// How many strings of one, two and three bytes there are; and of four bytes, with any second and the last two at the edges.
+const UP_TO_THREE: usize = 256 + 256 * 256 + 256 * 256 * 256;
+const OF_FOUR: usize = FOUR.len() * 256 * EDGES.len() * EDGES.len();
+
+/// The strings of one to three bytes in their order, and those of four.
+fn one_of_all(case: usize) -> Vec<u8> {
+    if case >= UP_TO_THREE {
+        let (rest, last) = ((case - UP_TO_THREE) / EDGES.len(), (case - UP_TO_THREE) % EDGES.len());
+        let (rest, third) = (rest / EDGES.len(), rest % EDGES.len());
+        return vec![FOUR[rest / 256], (rest % 256) as u8, EDGES[third], EDGES[last]];
+    }
+    let (size, number) = match case {
+        0..=0xff => (1, case),
+        0x100..=0x100ff => (2, case - 0x100),
+        _ => (3, case - 0x10100),
+    };
+    number.to_be_bytes()[8 - size..].to_vec()
+}
+
+/// Every string of one to three bytes, and the characters of four bytes around each bound.
+pub fn every(fault: u32) -> Tally {
+    work::spread((UP_TO_THREE + OF_FOUR) as u64, fault, |case| tunnel(one_of_all(case as usize)))
+}

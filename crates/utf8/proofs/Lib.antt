@@ -1,0 +1,5 @@
+pub mod Places
+pub mod Rows
+pub mod Bytes
+pub mod Whole
+pub mod Skips
