@@ -2,4 +2,5 @@ pub mod Places
 pub mod Rows
 pub mod Bytes
 pub mod Whole
+pub mod Highs
 pub mod Skips

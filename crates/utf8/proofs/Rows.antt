@@ -41,16 +41,11 @@ all-four {u = u} {v} {w} {p} e f g h = both (all-three e f g) h ∙ assoc u v w 
     assoc true false w p = refl
     assoc false v w p = refl
 
--- the rows of UTF8-3 and of UTF8-4, as code has them
-or-three : (x y z : Bool) → ((x or y) or z) ≡ (x or y or z)
-or-three true y z = refl
-or-three false y z = refl
-
-pub three-rows : {x y z u v w : Bool} → x ≡ u → y ≡ v → z ≡ w → ((x or y) or z) ≡ (u or v or w)
-three-rows {x} {y} {z} e f g = rw (← e, ← f, ← g) (or-three x y z)
-
-pub four-rows : {x y z o u v w p : Bool} → x ≡ u → y ≡ v → z ≡ w → o ≡ p → (((x or y) or z) or o) ≡ (u or v or w or p)
-four-rows {x} {y} {z} {o} e f g h = rw (← e, ← f, ← g, ← h) (or-three (x or y) z o ∙ or-three x y (z or o))
+-- rows of one width, one after another
+pick-or : (x y : Bool) (u v : ℕ) → pick (x or y) u v ≡ pick x u (pick y u v)
+unfolding pick
+pick-or true y u v = refl
+pick-or false y u v = refl
 
 -- a test for room that the rows make by themselves
 roomy : (m n x : ℕ) → (n < m → x ≡ 0) → pick (leb m n) x 0 ≡ x
@@ -61,8 +56,28 @@ roomy m n x f = go (leb m n) refl
     go true e = refl
     go false e = sym (f (leb-false m n e))
 
+abbrev rows-3 : ℕ → ℕ → ℕ → ℕ → ℕ
+rows-3 a b c n =
+    pick (among 0xe0 0xe0 a & among 0xa0 0xbf b & tail c) 3
+    (pick (among 0xe1 0xec a & tail b & tail c) 3
+    (pick (among 0xed 0xed a & among 0x80 0x9f b & tail c) 3
+    (pick (among 0xee 0xef a & tail b & tail c) 3 n)))
+
+abbrev rows-4 : ℕ → ℕ → ℕ → ℕ → ℕ
+rows-4 a b c d =
+    pick (among 0xf0 0xf0 a & among 0x90 0xbf b & tail c & tail d) 4
+    (pick (among 0xf1 0xf3 a & tail b & tail c & tail d) 4
+    (pick (among 0xf4 0xf4 a & among 0x80 0x8f b & tail c & tail d) 4 0))
+
+-- the nine rows
 abbrev by-rows : ℕ → ℕ → ℕ → ℕ → ℕ
-by-rows a b c d = pick (utf8-1 a) 1 (pick (utf8-2 a b) 2 (pick (utf8-3 a b c) 3 (pick (utf8-4 a b c d) 4 0)))
+by-rows a b c d = pick (utf8-1 a) 1 (pick (among 0xc2 0xdf a & tail b) 2 (rows-3 a b c (pick (utf8-4 a b c d) 4 0)))
+
+by-threes : (a b c n : ℕ) → pick (utf8-3 a b c) 3 n ≡ rows-3 a b c n
+by-threes a b c n = rw (pick-or, pick-or, pick-or)
+
+pub by-fours : (a b c : ℕ) {d e r : ℕ} → d ≡ e → r ≡ rows-4 a b c d → r ≡ pick (utf8-4 a b c e) 4 0
+by-fours a b c {d} z e = e ∙ sym (rw (pick-or, pick-or)) ∙ ap (λ (x : ℕ). pick (utf8-4 a b c x) 4 0) z
 
 -- the width by the rows, in the table's order
 module _ (s : List ℕ) (at : ℕ) (h : at < length s) where
@@ -84,7 +99,8 @@ module _ (s : List ℕ) (at : ℕ) (h : at < length s) where
       let z2 : n < 2 → x2 ≡ 0 = λ l. passed 2 x3 (ap (utf8-2 a) (sym (gone 1 (omega arith))) ∙ cut-2 a) (z3 (omega arith)) in
       let k3 = ap (λ (y : ℕ). pick (leb 3 n) (pick (utf8-3 a b c) 3 y) 0) (roomy 4 n x4 z4) ∙ roomy 3 n x3 z3 in
       let k2 = ap (λ (y : ℕ). pick (leb 2 n) (pick (utf8-2 a b) 2 y) 0) k3 ∙ roomy 2 n x2 z2 in
-      width-at s at h (e ∙ sym (ap (λ (y : ℕ). pick (utf8-1 a) 1 y) k2))
+      let f : x3 ≡ rows-3 a b c x4 = by-threes a b c x4 in
+      width-at s at h (e ∙ sym (ap (λ (y : ℕ). pick (utf8-1 a) 1 y) (k2 ∙ ap (λ (y : ℕ). pick (utf8-2 a b) 2 y) f)))
 
-pub width-rows : (s : List ℕ) (at : ℕ) {b c d : ℕ} → b ≡ getD s (at + 1) 0 → c ≡ getD s (at + 2) 0 → d ≡ getD s (at + 3) 0 → {r : ℕ} → r ≡ by-rows (getD s at 0) b c d → at < length s → r ≡ width (drop at s)
-width-rows s at p q o e h = by-bytes s at h (rw (p, q, o) at e)
+pub width-rows : (s : List ℕ) (at : ℕ) {b c : ℕ} → b ≡ getD s (at + 1) 0 → c ≡ getD s (at + 2) 0 → {r : ℕ} → r ≡ by-rows (getD s at 0) b c (getD s (at + 3) 0) → at < length s → r ≡ width (drop at s)
+width-rows s at p q e h = by-bytes s at h (rw (p, q) at e)

@@ -1,20 +1,47 @@
 // Ways to skip what the table of lib.rt would accept, many bytes at once. They decide nothing: to go on from where a skip ends is the same as to
 // go on by the rows, and without them every answer stays.
 ghost use mathlib.Core.Path.{_≡_};
+ghost use mathlib.Core.Bool.{true};
 ghost use Prim.Native.Nat.{_+_, _*_, _/_, _≤_, _<_};
 ghost use lib.ListN.{length, drop};
 ghost use lib.Dec.{leb};
 ghost use Rattle.reading.proofs.Utf8.{plain};
+ghost use Rattle.utf8.specs.Numbers.{number, Bytes};
 ghost use Rattle.utf8.specs.Fits.{begins, awaited, least, most, second, fits, all-fit};
 ghost use Rattle.utf8.specs.Skips.{Last-begins, Skips};
 use crate::ranges::among;
 use crate::tail;
 
-// Whether the n bytes at `at` are all UTF8-1: no branch for a byte, so that they are tested at once.
+fn wide(b: u8) -> u64
+    ensures { λ r. ⌜ (r ≡ b) × (r < 256) ⌝ }
+{
+    b as u64
+}
+
+// The number of eight bytes, the last one highest, which is one load on a little-endian processor.
+fn eight(s: &[u8], at: usize) -> u64
+    requires { ⌜ at + 8 ≤ length (now s) ⌝ }
+    ensures { λ r. ⌜ (r ≡ number 8 (now (s .entry)) at 0) × Bytes 8 (now (s .entry)) at 0 ⌝ }
+{
+    let a = wide(s[at]);
+    let b = wide(s[at + 1]);
+    let c = wide(s[at + 2]);
+    let d = wide(s[at + 3]);
+    let e = wide(s[at + 4]);
+    let f = wide(s[at + 5]);
+    let g = wide(s[at + 6]);
+    let h = wide(s[at + 7]);
+    ((((((h * 256 + g) * 256 + f) * 256 + e) * 256 + d) * 256 + c) * 256 + b) * 256 + a
+}
+
+// Whether the n bytes at `at` are all UTF8-1: no branch for a byte, so that they are tested at once; eight by the highest bit of each.
 fn block(s: &[u8], at: usize, n: usize) -> bool
     requires { ⌜ at + n ≤ length (now s) ⌝ }
     ensures { λ r. ⌜ r ≡ leb n (plain (drop at (now (s .entry)))) ⌝ }
 {
+    if n == 8 {
+        return eight(s, at) & 0x8080808080808080 == 0;
+    }
     let mut all = true;
     let mut i = 0;
     while i < n {
@@ -57,6 +84,21 @@ fn past_bytes(s: &[u8], at: usize) -> usize
     i
 }
 
+// Whether fewer than eight bytes are left at i, and the last eight are all UTF8-1.
+fn last_eight(s: &[u8], i: usize) -> bool
+    requires { ⌜ i ≤ length (now s) ⌝ }
+    ensures { λ r. ⌜ (r ≡ true → i + plain (drop i (now (s .entry))) ≡ length (now (s .entry))) ⌝ }
+{
+    if s.len() < 8 {
+        return false;
+    }
+    let last = s.len() - 8;
+    if i < last {
+        return false;
+    }
+    block(s, last, 8)
+}
+
 // Past the run of UTF8-1 at `at`: by blocks of 64, of 8, and one by one.
 fn past_run(s: &[u8], at: usize) -> usize
     requires { ⌜ at ≤ length (now s) ⌝ }
@@ -66,8 +108,11 @@ fn past_run(s: &[u8], at: usize) -> usize
         return at;
     }
     if among(0x00, 0x7f, s[at]) {
-        let wide = past_blocks(s, at, 64);
-        return past_bytes(s, past_blocks(s, wide, 8));
+        let i = past_blocks(s, past_blocks(s, at, 64), 8);
+        if last_eight(s, i) {
+            return s.len();
+        }
+        return past_bytes(s, i);
     }
     at
 }

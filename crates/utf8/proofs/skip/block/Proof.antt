@@ -7,6 +7,7 @@ use lib.Dec.{leb, leb·zero}
 use lib.ListN.{drop}
 use Rattle.reading.proofs.Utf8.{plain}
 use Rattle.utf8.proofs.Places.{plain-byte}
+use Rattle.utf8.proofs.Highs.{eight-plain}
 use Rattle.utf8.proofs.skip.block.Statement.{statement}
 use Rattle.utf8.proofs.skip.block.Tie as tie
 
@@ -22,6 +23,8 @@ block-spec =
     (tie.spec
     Inv-loop
     μ-loop
+    (λ c κs. search needs)  -- eight-requires
+    (λ c. eight-plain _ _ (c .eight .ensures) (c .before .if1 .taken) (search needs))  -- returns
     (λ c. (omega arith, rw leb·zero))  -- loop-holds
     (λ c. search needs)  -- add-among
     (λ c. search needs)  -- shared-slice-read-among
@@ -30,6 +33,6 @@ block-spec =
     (λ c. search needs)  -- loop-less
     (λ c.
     let p = c .before .before .before in
-    (omega arith, plain-byte (p .before .before .args .s .now) (p .before .before .args .at) (p .loop .i) (p .loop .inv .1) (c .among .ensures) (omega arith)))  -- loop-again
-    (λ c. let e : c .before .loop .i ≡ c .before .before .before .args .n = omega arith in cc)  -- returns
+    (omega arith, plain-byte (p .before .before .before .args .s .now) (p .before .before .before .args .at) (p .loop .i) (p .loop .inv .1) (c .among .ensures) (omega arith)))  -- loop-again
+    (λ c. let e : c .before .loop .i ≡ c .before .before .before .before .args .n = omega arith in cc)  -- returns
     )
