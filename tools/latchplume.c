@@ -18,7 +18,8 @@
 static const char HELP[] =
     "usage: latchplume list [--port N] FILE          one datagram: the answer, and a line for each descriptor\n"
     "       latchplume run  [--port N] FILE          datagrams end to end, listed likewise\n"
-    "       latchplume show [--port N] [--full] FILE datagrams end to end, each as a tree of its fields\n"
+    "       latchplume show [--port N] [--full] [--pads] FILE\n"
+    "                                                datagrams end to end, each as a tree of its fields\n"
     "       latchplume cut  [--port N --packet N] FILE INDEX\n"
     "                                                one record, from its format word to its pad, as a relay would forward it\n"
     "\n"
@@ -29,6 +30,7 @@ static const char HELP[] =
     "  --port N   the port of the packets in a pcap file, instead of 6343\n"
     "  --packet N the packet of a pcap file that INDEX is in, as list counts them\n"
     "  --full     all of a field that has more than 256 bytes or words\n"
+    "  --pads     the pads that are not zero, below the field, record or sample that each is behind\n"
     "  --help     this text\n"
     "\n"
     "exit status: 0 all was accepted\n"
@@ -44,6 +46,7 @@ struct work {
     const char *index;
     struct cut cut;
     size_t most;
+    bool pads;
     uint32_t *store;
     size_t words;
     unsigned long number; /* of the datagram that is shown */
@@ -131,7 +134,7 @@ static size_t show_next(struct work *w, const struct shown *s, size_t from)
 
 static void show_all(struct work *w, const uint8_t *data, size_t length)
 {
-    struct shown s = {data, length, w->most};
+    struct shown s = {data, length, w->most, w->pads};
     size_t from = 0, got = 1;
     while (from < length && got > 0) {
         got = show_next(w, &s, from);
@@ -142,7 +145,7 @@ static void show_all(struct work *w, const uint8_t *data, size_t length)
 /* The one datagram of a packet; bytes behind it are no fault. */
 static void show_packet(struct work *w, const uint8_t *data, size_t length)
 {
-    struct shown s = {data, length, w->most};
+    struct shown s = {data, length, w->most, w->pads};
     show_next(w, &s, 0);
 }
 
@@ -266,6 +269,8 @@ static int with(struct work *w, char **words)
             options = false;
         } else if (option && strcmp(*words, "--full") == 0) {
             w->most = SIZE_MAX;
+        } else if (option && w->each == show_all && strcmp(*words, "--pads") == 0) {
+            w->pads = true;
         } else if (option && strcmp(*words, "--port") == 0) {
             if (!read_number(*++words, 1, 65535, &number))
                 return usage("--port takes a number from 1 to 65535", "");

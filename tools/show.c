@@ -55,6 +55,8 @@ static bool show_one(const struct shown *s, const uint32_t *one, unsigned long n
 {
     const struct layout *layout = layout_of(one[LATCHPLUME_KIND], one[LATCHPLUME_FORMAT]);
     title(one, number, layout);
+    if (s->pads && one[LATCHPLUME_KIND] != LATCHPLUME_DATAGRAM)
+        text_pad(level_of(one) + 1, s->data, (size_t)one[LATCHPLUME_START] + one[LATCHPLUME_LENGTH], one[LATCHPLUME_LENGTH]);
     if (layout)
         return fields(s, one, layout);
     if (one[LATCHPLUME_KIND] != LATCHPLUME_PDU) {

@@ -167,6 +167,19 @@ void text_bytes(unsigned level, const uint8_t *data, size_t start, size_t count,
     }
 }
 
+void text_pad(unsigned level, const uint8_t *data, size_t end, size_t count)
+{
+    static const uint8_t zeros[4] = {0};
+    size_t size = (4 - count % 4) % 4;
+    if (memcmp(data + end, zeros, size) == 0)
+        return;
+    text_indent(level);
+    printf("pad:");
+    for (size_t i = 0; i < size; i++)
+        printf(" %02x", data[end + i]);
+    printf(" at %zu\n", end);
+}
+
 void text_around(unsigned level, const uint8_t *data, size_t length, size_t at)
 {
     size_t middle = at - at % ROW;

@@ -25,6 +25,9 @@ void text_string(const uint8_t *bytes, size_t count, size_t most);
 /* Rows of sixteen bytes, with the position of each row; at most `most` bytes. */
 void text_bytes(unsigned level, const uint8_t *data, size_t start, size_t count, size_t most);
 
+/* The pad behind so many bytes that end at `end`, where a byte of it is not zero. */
+void text_pad(unsigned level, const uint8_t *data, size_t end, size_t count);
+
 /* The rows around a position, with that byte marked; the end of the data may be marked too. */
 void text_around(unsigned level, const uint8_t *data, size_t length, size_t at);
 

@@ -90,6 +90,8 @@ static void bytes(const struct shown *s, unsigned level, latchplume_span part)
 {
     printf("%zu bytes\n", part.count);
     text_bytes(level + 1, s->data, part.start, part.count, s->most);
+    if (s->pads)
+        text_pad(level + 1, s->data, part.start + part.count, part.count);
 }
 
 void value_print(const struct shown *s, unsigned level, const struct field *field, const union reading *from)
@@ -124,4 +126,6 @@ void value_print(const struct shown *s, unsigned level, const struct field *fiel
     case SEGMENTS: segments(s, level, *part); break;
     }
     putchar('\n');
+    if (s->pads && field->shape == STRING)
+        text_pad(level + 1, s->data, part->start + part->count, part->count);
 }

@@ -4,11 +4,12 @@
 
 #include "layouts.h"
 
-/* What is shown: the input, and how many bytes or words of one field at the most. */
+/* What is shown: the input, how many bytes or words of one field at the most, and whether pads that are not zero are told. */
 struct shown {
     const uint8_t *data;
     size_t length;
     size_t most;
+    bool pads;
 };
 
 /* A line for the field, and lines below it where its value has parts. */

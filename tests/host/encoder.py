@@ -88,7 +88,7 @@ class Body:
         self.name, self.rng, self.given = name, rng, given
         self.kind, self.format, fields = LAYOUTS[name]
         self.data, self.items, self.fields, self.faults = bytearray(), [], {}, []
-        self.lists, self.paths = [], []  # each with its first byte and its values
+        self.lists, self.paths, self.pads = [], [], []  # each with its first byte and its values
         for field in fields.split():
             field, _, shape = field.partition(":")
             self.fields[field] = getattr(self, shape or "plain")(field)
@@ -163,8 +163,9 @@ class Body:
         value = self.given.get(field)
         if value is None:
             value = self.rng.randbytes(self.rng.randint(0, 9))
-        start = len(self.data) + 4
-        self.item(word(len(value)) + value + self.rng.randbytes(pads(len(value))))
+        start, pad = len(self.data) + 4, self.rng.choice((bytes(3), self.rng.randbytes(3)))[:pads(len(value))]
+        self.item(word(len(value)) + value + pad)
+        self.pads.append((start + len(value), pad))
         return Span(start, len(value))
 
     def string(self, field):
@@ -222,9 +223,11 @@ class Wire:
     def __init__(self, rng):
         self.rng, self.data, self.steps, self.rows, self.bodies = rng, bytearray(), 0, [], []
         self.outer = []  # items that nothing encloses: first byte, end, and the steps before it
+        self.pads = []  # each with its first byte
 
     def body(self, row, body):
         self.bodies.append((row, body, len(self.data), self.steps))
+        self.pads += [(len(self.data) + start, pad) for start, pad in body.pads]
         if row is not None and self.rows[row][0] == 0:
             base = len(self.data)
             self.outer += [(base + start, base + end, self.steps + i) for i, (start, end) in enumerate(body.items)]
@@ -243,7 +246,8 @@ class Wire:
         self.data += self.rng.randbytes(left_over or 0)
         length = len(self.data) - start
         self.data[start - 4:start] = word(length)
-        self.data += self.rng.randbytes(pads(length))
+        self.pads.append((len(self.data), self.rng.randbytes(pads(length))))
+        self.data += self.pads[-1][1]
         self.rows[row] = (kind, form, start, length, parent, depth, begin)
         if kind == 1:
             self.outer += [(begin, begin + 4, before), (begin + 4, len(self.data), before + 1)]

@@ -129,7 +129,7 @@ def usages(tool):
         ("cut one 0x1", "an index is a number from 0 on, and not 0x1"), ("cut one 0 1", "one file at a time, and here is another: 1"),
         ("cut one " + "9" * 30, "an index is a number from 0 on, and not " + "9" * 30), ("list --packet 1 one", "there is no option --packet"),
         ("cut --packet 0 one 0", "--packet takes a number from 1 on"), ("cut one 0 --packet", "--packet takes a number from 1 on"),
-        ("show one --port", port), ("show --port 65536 one", port), ("show --port 0 one", port), ("show --port 6x one", port),
+        ("list --pads one", "there is no option --pads"), ("show one --port", port), ("show --port 65536 one", port), ("show --port 0 one", port), ("show --port 6x one", port),
     ):
         tool.same("usage", (2, "", f"latchplume: {said}{USAGE}\n"), *words.split())
     status, out, said = tool.run("--help")
@@ -153,6 +153,16 @@ def refusals(tool, rng):
     left = tool.run("show", tool.file("bad", SHORT + b"abc"))
     tool.checks.same("show: bytes left over", (1, True), (left[0], left[1].startswith("datagram 1: 24 bytes at 0\n")))
     trees.refusal_shown(tool.checks, left[1][left[1].index("datagram 2"):], SHORT + b"abc", 2, 24, 0)
+
+
+def pads_shown(tool, rng):
+    """show --pads tells every pad with a byte that is not zero, and no other; without it none is told."""
+    for _ in range(40):
+        wire, _ = encoder.any_datagram(rng)
+        expected = sorted(f"{pad.hex(' ')} at {start}" for start, pad in wire.pads if any(pad))
+        status, out, said = tool.run("show", "--pads", tool.file("pads", wire.data))
+        tool.checks.same("show --pads", (0, expected, ""), (status, sorted(re.findall(r"^ +pad: (.*)$", out, re.M)), said))
+        tool.checks.same("show: pads are told where they are asked for", re.sub(r"^ +pad: .*\n", "", out, flags=re.M), tool.run("show", "pads")[1])
 
 
 def trees_shown(tool, rng):
@@ -302,6 +312,6 @@ def check_all(checks, room):
     tool = Tool(checks, room, building.made("latchplume-checked"))
     for part in (real_shown, troubles, usages, cut_troubles):
         part(tool)
-    for part in (refusals, fault_checks.check, trees_shown, cuts, cuts_read_back, nothing_raw, long_fields):
+    for part in (refusals, fault_checks.check, pads_shown, trees_shown, cuts, cuts_read_back, nothing_raw, long_fields):
         part(tool, rng)
     the_script(checks, room)

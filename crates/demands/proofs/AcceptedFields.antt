@@ -18,7 +18,7 @@ use Rattle.demands.proofs.Accepted.{given, one-reading, accepted-reads}
 use Rattle.demands.proofs.RunItemised.{run-accepts, run-out, one-run}
 use Rattle.demands.proofs.Fielded.{All-fields, datagram-fields, run-fields}
 
-within-limit : (s w : List ℕ) (x : Answer) → limited s x (refused 1 0 0 0 w) .code ≡ 0 → length s ≤ limit
+pub within-limit : (s w : List ℕ) (x : Answer) → limited s x (refused 1 0 0 0 w) .code ≡ 0 → length s ≤ limit
 within-limit s w x = go (leb (length s) limit) (λ e. leb-true (length s) limit e)
   where
     go : (b : Bool) → (b ≡ true → length s ≤ limit) → cond b x (refused 1 0 0 0 w) .code ≡ 0 → length s ≤ limit

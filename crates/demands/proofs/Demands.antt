@@ -11,6 +11,7 @@ use Rattle.reading.specs.Script.{Forest, Found}
 use Rattle.reading.specs.Grammar.{Is}
 use Rattle.reading.specs.Layout.{depth-limit, datagram-to, datagram}
 use Rattle.reading.specs.Answer.{limit, nobody, row-words, size, room, no-header, Answer, refused, one, run, read}
+use Rattle.reading.proofs.Descriptors.{descriptor}
 use Rattle.demands.specs.Depths.{Shallow}
 use Rattle.demands.proofs.Limit.{no-deeper, same-reading}
 use Rattle.demands.specs.Readings.{Reading, Answers, Allowed, Accepted}
@@ -24,6 +25,9 @@ use Rattle.demands.specs.Tries.{Run, Run-stops}
 use Rattle.demands.specs.RunItemised.{Run-answers, Run-itemised, Run-accepted}
 use Rattle.demands.proofs.RunItemised.{run-itemised, run-accepts, run-answered, run-fits, run-refused, one-run, run-room-last}
 use Rattle.demands.proofs.RunUnseen.{run-eight-unseen}
+use Rattle.demands.specs.Pads.{Same-but-pads}
+use Rattle.demands.proofs.Pads.{pads-free}
+use Rattle.demands.proofs.PadFields.{pads-free-fields}
 use Rattle.demands.specs.Nested.{end, last, Inside, Byte-of, row, all-of, whole-of}
 use Rattle.demands.specs.FieldsItemised.{Fields-itemised}
 use Rattle.demands.proofs.FieldsItemised.{fields-itemised}
@@ -154,6 +158,17 @@ module _ (s w : List ℕ) where
   -- code 8 precedes any look at that record's bytes (`Unseen`): an input that is as long, and alike before that position, is answered alike
   pub record-not-looked-at : (t : List ℕ) → one s w .code ≡ 8 → length t ≡ length s → take (one s w .at) t ≡ take (one s w .at) s → one t w ≡ one s w
   record-not-looked-at t = eight-unseen s t w
+
+  -- ---- bytes that do not matter (`Pads`): an input that has each byte of s before its end that is in no pad of an opaque or a string in its reading
+  -- is answered as s is, whatever stands in the pads and behind the end, and however long that is
+  pub pads-do-not-matter : (t : List ℕ) → one s w .code ≡ 0 → length t ≤ limit → Same-but-pads s t (one s w .at) → one t w ≡ one s w
+  pads-do-not-matter t = pads-free s t w
+
+  -- nor to field reading (`PadFields`): whatever fields are asked for of a descriptor of s, they are answered of that input as of s
+  pub pads-do-not-matter-to-fields : (t : List ℕ) → one s w .code ≡ 0 → length t ≤ limit → Same-but-pads s t (one s w .at) → (i : ℕ) → i < one s w .needed → (ak af : ℕ)
+      → let d = descriptor (one s w .store) i in
+      read ak af t (d .kind) (d .format) (d .span .start) (d .span .count) ≡ read ak af s (d .kind) (d .format) (d .span .start) (d .span .count)
+  pads-do-not-matter-to-fields t = pads-free-fields s t w
 
 -- ==== a run (`Tries` says what a run is by the grammar; `Tried` and `RunItemised` that it is answered)
 module _ (s w : List ℕ) where

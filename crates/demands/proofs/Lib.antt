@@ -21,6 +21,9 @@ pub mod Unseen
 pub mod FieldsItemised
 pub mod RunUnseen
 pub mod AcceptedFields
+pub mod Pads
+pub mod PadFields
+pub mod PadExample
 pub mod Calls
 pub mod Impostors
 pub mod Characters

@@ -7,3 +7,4 @@ pub mod Itemised
 pub mod RunItemised
 pub mod FieldsItemised
 pub mod Abnf
+pub mod Pads

@@ -60,7 +60,7 @@ struct Ours {
 }
 
 /// What every word of a lent store holds beforehand.
-fn lent(words: usize) -> Vec<u32> {
+pub fn lent(words: usize) -> Vec<u32> {
     (0..words as u32).map(|n| 0xa5a5_0000 ^ n.wrapping_mul(0x9e37_79b9)).collect()
 }
 
@@ -163,7 +163,7 @@ impl Judge {
     /// The fields of the sample or record in which the input was refused: they are refused as the input was, in the same place.
     fn refused_fields(&self, data: &[u8], reading: &Reading) -> Checked {
         let Some(within) = &reading.within else { return Ok(()) };
-        let row = LAYOUTS.iter().position(|row| (row.kind, row.format) == (within[0], within[1])).unwrap();
+        let row = row_of(within[0], within[1]).unwrap();
         let answered = self.reading(data, within, row)?;
         same("fields of what was refused: code and position", &answered, &(reading.code, reading.at))
     }
@@ -174,7 +174,7 @@ impl Judge {
         let payload = self.library.payload(data, descriptor);
         same("payload", &(payload.start, payload.count), &(start as usize, length as usize))?;
         self.whole(data, descriptor)?;
-        match LAYOUTS.iter().position(|row| (row.kind, row.format) == (kind, format)) {
+        match row_of(kind, format) {
             Some(row) => self.reading(data, descriptor, row).map(|_| ()),
             None => Ok(()),
         }
@@ -215,7 +215,7 @@ impl Judge {
         let mut changed = *descriptor;
         let [.., first] = &mut changed;
         *first = !*first;
-        let own = LAYOUTS.iter().position(|row| (row.kind, row.format) == (descriptor[0], descriptor[1]));
+        let own = row_of(descriptor[0], descriptor[1]);
         let mut row = own.unwrap_or(pick % LAYOUTS.len());
         match pick % 11 {
             0 => changed[3] /= 2,
@@ -349,7 +349,7 @@ impl Judge {
             let payload = self.library.payload(data, descriptor);
             same("the crate: payload", &data.get(payload.start..payload.start + payload.count), &Some(raw))?;
         }
-        let Some(row) = LAYOUTS.iter().position(|row| (row.kind, row.format) == (kind, format)) else {
+        let Some(row) = row_of(kind, format) else {
             return Ok(());
         };
         let name = format!("the crate: field of {kind}/{format}");

@@ -2,11 +2,12 @@
 //! whether the comparison notices. 0 is no fault.
 
 use crate::library::{self, Answer, Decoded, Listed, Outcome, Segment, Span};
+use crate::paper;
 use crate::shape::*;
 use crate::value::Value;
 
-/// What each fault does; the first is number 1.
-pub const FAULTS: [&str; 21] = [
+/// What each fault does; the first is number 1. Those that begin with `pads` are for `--pads` to find: hardly any random input meets them.
+pub const FAULTS: [&str; 23] = [
     "code 2 is given four bytes too late",
     "an accepted datagram has a step too many",
     "the header's sequence number has its bytes turned round",
@@ -28,6 +29,8 @@ pub const FAULTS: [&str; 21] = [
     "all of a record lacks its pad",
     "code 7 is given at the first byte of the word that it is in",
     "a field reading gives code 7 one byte too late",
+    "pads: an accepted datagram with rubbish in each of its pads, ten or more, has a step too many",
+    "pads: the header's field reading takes in bytes behind the datagram, where there are 48 and none is zero",
 ];
 
 pub struct Library {
@@ -40,6 +43,9 @@ impl Library {
         self.spoil_answer(&mut got.answer, store);
         if self.fault == 3 {
             got.sequence_number = got.sequence_number.swap_bytes();
+        }
+        if self.fault == 22 && got.answer.code == 0 && has_rubbish_only(data) {
+            got.answer.steps += 1;
         }
         got
     }
@@ -63,6 +69,9 @@ impl Library {
         }
         if self.fault == 11 && row == 9 {
             values.swap(2, 3);
+        }
+        if self.fault == 23 && row == 0 {
+            take_in_tail(data, descriptor, &mut values);
         }
         (outcome, values)
     }
@@ -133,6 +142,23 @@ fn spoil_parents(store: &mut [u32], needed: usize) {
         } else {
             words[4] -= datagram;
         }
+    }
+}
+
+/// Whether there are ten pads or more in the datagram, and no zero in any.
+fn has_rubbish_only(data: &[u8]) -> bool {
+    let pads = paper::decode(data).pads;
+    pads.len() >= 10 && !pads.into_iter().any(|pad| data[pad].contains(&0))
+}
+
+/// Spoils the last value of a header with the first of 48 bytes behind its datagram, none of them zero.
+fn take_in_tail(data: &[u8], descriptor: &Descriptor, values: &mut [Value]) {
+    let [_, _, start, length, _, _, first] = *descriptor;
+    let end = start.saturating_add(length) as usize;
+    let behind = data.get(end..end.saturating_add(48)).filter(|bytes| !bytes.contains(&0));
+    // Where the comparison has changed a descriptor, its first byte too, the datagram does not end there.
+    if let (Some(bytes), Some(Value::Word(last)), true) = (behind, values.last_mut(), first == start) {
+        *last ^= u32::from(bytes[0]);
     }
 }
 

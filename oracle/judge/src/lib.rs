@@ -6,6 +6,7 @@ mod grow;
 pub mod library;
 pub mod listed;
 pub mod make;
+pub mod pads;
 mod paper;
 mod random;
 mod reach;

@@ -1,12 +1,12 @@
 //! Compares the library with the crate; see ../../run.
 
 use judge::tally::Tally;
-use judge::{compare, fault, library, listed, make, stored, strings, sweep, work};
+use judge::{compare, fault, library, listed, make, pads, stored, strings, sweep, work};
 use std::path::{Path, PathBuf};
 use std::process::exit;
 
 const USAGE: &str =
-    "usage: judge N SEED | --every-byte | --strings | --every-string | --long | --input HEX | --files PATH... |
+    "usage: judge N SEED | --every-byte | --strings | --every-string | --long | --pads N SEED | --input HEX | --files PATH... |
        --store SEED INTO PATH... | --c-checks | --list-faults, each with [--fault K]";
 
 /// From so many cases on, every format, code and class must have been reached.
@@ -88,6 +88,10 @@ fn main() {
         ["--strings"] => strings::all(fault),
         ["--every-string"] => strings::every(fault),
         ["--long"] => sweep::long(fault),
+        ["--pads", cases, seed] => {
+            let holds = pads::holds(number(cases, "N"), number(seed, "SEED"), fault);
+            exit(i32::from(!holds))
+        }
         ["--input", bytes] => {
             let input = hex(bytes);
             compare::show(&input, fault);

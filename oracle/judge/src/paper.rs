@@ -5,6 +5,7 @@
 
 use crate::shape::*;
 use crate::value::{sixteen, Value};
+use std::ops::Range;
 
 #[derive(Clone, Copy, PartialEq, Debug)]
 pub struct Refusal {
@@ -22,11 +23,13 @@ pub struct Cursor<'a> {
     pub steps: usize,
     /// Where the last string's first byte is.
     text: usize,
+    /// The pads of the opaques and strings that have one.
+    pads: Vec<Range<usize>>,
 }
 
 impl<'a> Cursor<'a> {
     pub fn new(data: &'a [u8], at: usize, end: usize) -> Self {
-        Cursor { data, at, end, steps: 0, text: 0 }
+        Cursor { data, at, end, steps: 0, text: 0, pads: Vec::new() }
     }
 
     fn refuse<T>(&self, code: u32, at: usize) -> Read<T> {
@@ -72,6 +75,10 @@ impl<'a> Cursor<'a> {
         }
         self.take(length.div_ceil(4) * 4, first)?;
         self.steps += 1;
+        let pad = first + 4 + length..self.at;
+        if !pad.is_empty() {
+            self.pads.push(pad);
+        }
         Ok((first + 4, length))
     }
 
@@ -169,6 +176,8 @@ pub struct Reading {
     pub text: usize,
     /// The sample or record whose field was refused.
     pub within: Option<Descriptor>,
+    /// Of what is accepted, the pads of the opaques and strings that have one: one to three bytes each, behind the payload.
+    pub pads: Vec<Range<usize>>,
 }
 
 struct Reader<'a> {
@@ -286,13 +295,13 @@ impl<'a> Reader<'a> {
     }
 
     fn answer(self, code: u32, at: usize) -> Reading {
-        let Cursor { steps, text, .. } = self.cursor;
+        let Cursor { steps, text, pads, .. } = self.cursor;
         let Reader { place, opened, at_limit, .. } = self;
         // A sample's or record's fields come before anything that is in it.
         let in_fields = code != 0 && matches!(place, Place::Sample(_) | Place::Flow(_));
         let within = self.store.last().copied().filter(|_| in_fields);
-        let (store, header) = if code == 0 { (self.store, self.header) } else { (Vec::new(), Vec::new()) };
-        Reading { code, at, steps, store, header, place, opened, at_limit, text, within }
+        let (store, header, pads) = if code == 0 { (self.store, self.header, pads) } else { (Vec::new(), Vec::new(), Vec::new()) };
+        Reading { code, at, steps, store, header, place, opened, at_limit, text, within, pads }
     }
 }
 
@@ -325,11 +334,12 @@ pub fn decode_run(data: &[u8]) -> Reading {
         return reader.answer(1, 0);
     }
     while reader.cursor.at < data.len() {
-        let (begun, kept) = (reader.cursor.at, reader.store.len());
+        let (begun, kept, pads) = (reader.cursor.at, reader.store.len(), reader.cursor.pads.len());
         match reader.datagram() {
             Ok(()) => {}
             Err(refusal) if refusal.code == 2 => {
                 reader.store.truncate(kept);
+                reader.cursor.pads.truncate(pads);
                 return reader.answer(0, begun);
             }
             Err(refusal) => return reader.answer(refusal.code, refusal.at),

@@ -79,7 +79,12 @@ pub const LAYOUTS: [Layout; 26] = [
 
 /// The row of a descriptor's kind and format word; none for what stays raw and for PDUs.
 pub fn layout_of(kind: u32, format: u32) -> Option<&'static Layout> {
-    LAYOUTS.iter().find(|row| row.kind == kind && row.format == format)
+    row_of(kind, format).map(|row| &LAYOUTS[row])
+}
+
+/// The number of that row.
+pub fn row_of(kind: u32, format: u32) -> Option<usize> {
+    LAYOUTS.iter().position(|row| row.kind == kind && row.format == format)
 }
 
 /// Whether the crate opens a record of this kind and format that document 01 keeps raw.

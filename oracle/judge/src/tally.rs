@@ -25,6 +25,8 @@ pub enum Key {
     OpenedAnswer(u32, u32),
     Deep(u32),
     Long(u32),
+    /// A byte of a pad behind what is read there, in an accepted datagram.
+    Pad(Place),
 }
 
 /// What accepted datagrams hold besides: address types, strings, and bytes that are to be passed over.
@@ -166,6 +168,7 @@ fn named(key: Key) -> (String, String) {
         }
         Key::OpenedAnswer(code, crates) => (format!("outside, opened record, code {code} where the crate answers"), crates.to_string()),
         Key::Deep(crates) => text("outside, a record at depth 9, where the crate answers", crates),
+        Key::Pad(place) => ("pad bytes in".to_string(), format!("{place:?}")),
         Key::Long(crates) => text("outside, input too long, where the crate answers", crates),
     }
 }

@@ -12,29 +12,35 @@ const BATCH: u64 = 512;
 
 /// Compares the cases 0 to `cases` - 1 that `input` makes.
 pub fn spread(cases: u64, fault: u32, input: impl Fn(u64) -> Vec<u8> + Sync) -> Tally {
+    let mut all = Tally::default();
+    let judges = on_all_cores(cases, || Judge::new(fault), |judge, case| judge.case(&input(case)));
+    judges.into_iter().for_each(|judge| all.merge(judge.tally));
+    all
+}
+
+/// Has the cases 0 to `cases` - 1 taken by a worker of each core; answers the workers.
+pub fn on_all_cores<W: Send>(cases: u64, worker: impl Fn() -> W + Sync, take: impl Fn(&mut W, u64) + Sync) -> Vec<W> {
     let (next, done) = (AtomicU64::new(0), AtomicU64::new(0));
     let cores = thread::available_parallelism().map_or(1, |cores| cores.get());
     let work = || {
-        let mut judge = Judge::new(fault);
+        let mut own = worker();
         loop {
             let first = next.fetch_add(BATCH, Ordering::Relaxed);
             if first >= cases {
-                return judge.tally;
+                return own;
             }
             let behind = cases.min(first + BATCH);
-            (first..behind).for_each(|case| judge.case(&input(case)));
+            (first..behind).for_each(|case| take(&mut own, case));
             done.fetch_add(behind - first, Ordering::Relaxed);
         }
     };
     thread::scope(|scope| {
         let workers: Vec<_> = (0..cores).map(|_| scope.spawn(work)).collect();
         scope.spawn(|| show_progress(cases, &done));
-        let tallies: Vec<_> = workers.into_iter().map(|worker| worker.join()).collect();
+        let ended: Vec<_> = workers.into_iter().map(|worker| worker.join()).collect();
         // A case that ended its worker must not keep the progress waiting.
         done.store(cases, Ordering::Relaxed);
-        let mut all = Tally::default();
-        tallies.into_iter().for_each(|tally| all.merge(tally.expect("a worker ended early")));
-        all
+        ended.into_iter().map(|own| own.expect("a worker ended early")).collect()
     })
 }
 
