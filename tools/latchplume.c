@@ -99,11 +99,12 @@ static void list(struct work *w, const uint8_t *data, size_t length)
 /* Where the datagram begins that a run is refused in. */
 static size_t refused_from(struct work *w, const uint8_t *data, size_t length)
 {
-    size_t from = 0;
-    latchplume_answer got = {0};
-    for (; got.code == LATCHPLUME_ACCEPTED; from += got.code == LATCHPLUME_ACCEPTED ? got.at : 0)
-        got = latchplume_decode(data + from, length - from, w->store, w->words).answer;
-    return from;
+    for (size_t from = 0;;) {
+        latchplume_answer got = latchplume_decode(data + from, length - from, w->store, w->words).answer;
+        if (got.code != LATCHPLUME_ACCEPTED)
+            return from;
+        from += got.at;
+    }
 }
 
 static void list_run(struct work *w, const uint8_t *data, size_t length)
