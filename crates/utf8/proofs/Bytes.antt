@@ -26,7 +26,7 @@ one-more s at i e f = both e f ∙ rw (add-one i)
 no : {A : Type 0} → true ≡ false → A
 no e = let z : _≡_ {A = ℕ} 0 1 = cc in absurd (omega arith)
 
-both-true : (x y : Bool) → (x & y) ≡ true → (x ≡ true) × (y ≡ true)
+pub both-true : (x y : Bool) → (x & y) ≡ true → (x ≡ true) × (y ≡ true)
 both-true true y h = (refl, h)
 both-true false y h = no (sym h)
 

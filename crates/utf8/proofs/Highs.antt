@@ -1,19 +1,21 @@
--- Eight bytes tested by the highest bit of each: none is set exactly where all are UTF8-1. Assumes nothing.
+-- Bytes tested at once, by the highest bit of each: none is set exactly where all are UTF8-1. Assumes nothing.
 use Prim.Native.Nat.{ℕ, zero, suc, _+_, _*_, _-_, _≤_, _<_}
 use mathlib.Core.Path.{_≡_, refl, sym, ap, _∙_}
 use mathlib.Core.Bool.{Bool, true, false, cond}
 use mathlib.Core.List.{List}
 use native.Mathlib.Omega.{arith}
-use borrow.Author.Tests.{leb-true, leb-false, le-leb, eqb-true, eqb-false, ne-eqb}
+use borrow.Author.Tests.{leb-true, leb-false, le-leb, lt-leb, eqb-true, eqb-false, ne-eqb}
 use lib.Bits.{bitAnd, and-block, and-comm, and-shifted, and-zero-r}
 use lib.Dec.{eqb, leb, leb·suc-suc, leb·suc-zero}
 use lib.ListN.{length, drop, getD}
 use Rattle.reading.proofs.Utf8.{plain, among-from}
 use Rattle.utf8.specs.Numbers.{number, Bytes}
-use Rattle.utf8.proofs.Places.{plain-here, plain-past, plain-room}
+use Rattle.utf8.specs.Skips.{last-plain}
+use Rattle.utf8.proofs.Bytes.{both-true}
+use Rattle.utf8.proofs.Places.{plain-drop, plain-here, plain-past, plain-room}
 
 -- the highest bits of n bytes
-pub highs : ℕ → ℕ
+unfoldable pub highs : ℕ → ℕ
 highs zero = 0
 highs (suc n) = highs n * 256 + 128
 
@@ -59,27 +61,58 @@ module _ (s : List ℕ) (at : ℕ) where
       go again true t = rw (low-byte (getD s (at + i) 0) (omega (arith, leb-true (getD s (at + i) 0) 0x7f t)), plain-at i (omega arith), t, leb·suc-suc) (scaled rest ∙ again)
       go again false t = rw (high-byte (getD s (at + i) 0) (omega (arith, leb-false (getD s (at + i) 0) 0x7f t)) b, plain-at i (omega arith), t, leb·suc-zero) (ne-eqb (rest * 256 + 128) 0 (λ z. omega arith))
 
-  -- eight bytes that were read one by one
-  pub eight-is : {a b c d e f g h : ℕ} → (a ≡ getD s at 0) × (a < 256) → (b ≡ getD s (at + 1) 0) × (b < 256) → (c ≡ getD s (at + 2) 0) × (c < 256) → (d ≡ getD s (at + 3) 0) × (d < 256) → (e ≡ getD s (at + 4) 0) × (e < 256) → (f ≡ getD s (at + 5) 0) × (f < 256) → (g ≡ getD s (at + 6) 0) × (g < 256) → (h ≡ getD s (at + 7) 0) × (h < 256) → (((((((h * 256 + g) * 256 + f) * 256 + e) * 256 + d) * 256 + c) * 256 + b) * 256 + a ≡ number 8 s at 0) × Bytes 8 s at 0
+  -- bytes that were read one by one: the last, one more before those behind it, and the first
+  pub last-read : (i : ℕ) {b : ℕ} → (b ≡ getD s (at + i) 0) × (b < 256) → (b ≡ number 1 s at i) × Bytes 1 s at i
   unfolding number Bytes
-  eight-is (a, a′) (b, b′) (c, c′) (d, d′) (e, e′) (f, f′) (g, g′) (h, h′) =
-      let z : at + 0 ≡ at = omega arith in
-      let y = ap (λ (j : ℕ). getD s j 0) z in
-      (omega arith, (omega arith, (omega arith, (omega arith, (omega arith, (omega arith, (omega arith, (omega arith, (omega arith, omega arith)))))))))
+  last-read i (e, l) = (omega arith, (omega arith, omega arith))
 
-  -- and are tested at once
-  pub eight-plain : {n v : ℕ} → (v ≡ number 8 s at 0) × Bytes 8 s at 0 → n ≡ 8 → at + n ≤ length s → eqb (bitAnd v 0x8080808080808080) 0 ≡ leb n (plain (drop at s))
-  unfolding highs
-  eight-plain (e, b) z h = let y : at + 0 ≡ at = omega arith in rw (e, z) (none-high 8 0 b (omega arith) ∙ ap (λ (j : ℕ). leb 8 (plain (drop j s))) y)
+  pub more-read : (n i : ℕ) {v b : ℕ} → (v ≡ number n s at (i + 1)) × Bytes n s at (i + 1) → (b ≡ getD s (at + i) 0) × (b < 256) → (v * 256 + b ≡ number (suc n) s at i) × Bytes (suc n) s at i
+  unfolding number Bytes
+  more-read n i (e, bs) (f, l) = (omega arith, (omega arith, bs))
 
-pub not-so : {A : Type 0} → false ≡ true → A
-not-so e = let z : _≡_ {A = ℕ} 0 1 = cc in absurd (omega arith)
+  pub first-read : (n : ℕ) {v b : ℕ} → (v ≡ number n s at 1) × Bytes n s at 1 → (b ≡ getD s at 0) × (b < 256) → (v * 256 + b ≡ number (suc n) s at 0) × Bytes (suc n) s at 0
+  first-read n r (f, l) = let z : at ≡ at + 0 = omega arith in more-read n 0 r (f ∙ ap (λ (j : ℕ). getD s j 0) z, l)
 
--- the last eight bytes hold the rest, where fewer than eight are left
-pub last-plain : (s : List ℕ) (i : ℕ) {last : ℕ} {x : Bool} → last ≡ length s - 8 → 8 ≤ length s → last ≤ i → i ≤ length s → x ≡ leb 8 (plain (drop last s)) → x ≡ true → i + plain (drop i s) ≡ length s
-last-plain s i {last} e h l k f t =
-    let p = leb-true 8 (plain (drop last s)) (sym f ∙ t) in
-    let m : last + (i - last) ≡ i = omega arith in
-    let q = plain-past s last (i - last) (omega arith) in
-    let y = ap (λ (j : ℕ). plain (drop j s)) m in
-    omega (arith, plain-room s last, q, y)
+  -- n bytes as one number, tested at once
+  pub all-plain : (n : ℕ) {m v : ℕ} → (v ≡ number n s at 0) × Bytes n s at 0 → m ≡ n → at + m ≤ length s → eqb (bitAnd v (highs n)) 0 ≡ leb m (plain (drop at s))
+  all-plain n (e, b) z h = let y : at + 0 ≡ at = omega arith in rw (e, z) (none-high n 0 b (omega arith) ∙ ap (λ (j : ℕ). leb n (plain (drop j s))) y)
+
+-- the last k bytes hold the rest, where at most k are left
+module _ (k : ℕ) (s : List ℕ) (i : ℕ) where
+  pub too-few : length s < k → false ≡ last-plain k s i
+  unfolding last-plain
+  too-few h = rw (le-leb (length s - k) i (omega arith), lt-leb k (plain (drop (length s - k) s)) (omega (arith, plain-room s (length s - k))))
+
+  pub too-early : i < length s - k → false ≡ last-plain k s i
+  unfolding last-plain
+  too-early h = rw (lt-leb (length s - k) i h)
+
+  pub last-look : {x : Bool} → length s - k ≤ i → x ≡ leb k (plain (drop (length s - k) s)) → x ≡ last-plain k s i
+  unfolding last-plain
+  last-look h e = rw (le-leb (length s - k) i h) e
+
+  pub last-rest : {x : Bool} → x ≡ last-plain k s i → x ≡ true → i ≤ length s → length s ≡ i + plain (drop i s)
+  unfolding last-plain
+  last-rest f t h =
+      let (a, b) = both-true (leb (length s - k) i) (leb k (plain (drop (length s - k) s))) (sym f ∙ t) in
+      let l = leb-true (length s - k) i a in
+      let p = leb-true k (plain (drop (length s - k) s)) b in
+      let e : length s - k + (i - (length s - k)) ≡ i = omega arith in
+      let q = plain-past s (length s - k) (i - (length s - k)) (omega (arith, plain-room s (length s - k))) in
+      let y = ap (λ (j : ℕ). plain (drop j s)) e in
+      omega (arith, plain-room s (length s - k), q, y)
+
+-- the first k and the last k hold all, where there are at most twice as many
+module _ (s : List ℕ) (k : ℕ) (h : k ≤ length s) (l : length s ≤ k + k) {x : Bool} (e : x ≡ leb k (plain (drop 0 s))) where
+  pub ends-plain : {y : Bool} → x ≡ true → y ≡ leb k (plain (drop (length s - k) s)) → y ≡ leb (length s) (plain s)
+  ends-plain {y} t f = go y f
+    where
+      reach : plain s ≡ length s - k + plain (drop (length s - k) s)
+      reach = plain-drop (length s - k) s (omega (arith, leb-true k (plain (drop 0 s)) (sym e ∙ t)))
+
+      go : (y : Bool) → y ≡ leb k (plain (drop (length s - k) s)) → y ≡ leb (length s) (plain s)
+      go true f = sym (le-leb (length s) (plain s) (omega (arith, reach, leb-true k (plain (drop (length s - k) s)) (sym f))))
+      go false f = sym (lt-leb (length s) (plain s) (omega (arith, reach, leb-false k (plain (drop (length s - k) s)) (sym f))))
+
+  pub first-other : x ≡ false → false ≡ leb (length s) (plain s)
+  first-other t = sym (lt-leb (length s) (plain s) (omega (arith, leb-false k (plain (drop 0 s)) (sym e ∙ t))))

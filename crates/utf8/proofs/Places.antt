@@ -34,7 +34,7 @@ past-plain (suc i) (a ∷ s) h = go (utf8-1 a) refl h (past-plain i s)
     go true e h f = let g : ends (a ∷ s) 1 ≡ ends (a ∷ s) 0 = sequence-on (a ∷ s) 0 1 1 (rw e) (omega arith) (omega arith) in omega (arith, f (omega arith), g)
     go false e h f = absurd (omega arith)
 
-plain-drop : (i : ℕ) (t : List ℕ) → i ≤ plain t → plain t ≡ i + plain (drop i t)
+pub plain-drop : (i : ℕ) (t : List ℕ) → i ≤ plain t → plain t ≡ i + plain (drop i t)
 unfolding plain
 plain-drop zero t h = omega arith
 plain-drop (suc i) [] h = absurd (omega arith)

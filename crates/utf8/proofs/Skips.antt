@@ -4,6 +4,8 @@ use mathlib.Core.Path.{_≡_, refl, sym, _∙_}
 use mathlib.Core.Bool.{Bool, true, false}
 use mathlib.Core.List.{List}
 use native.Mathlib.Omega.{arith}
+use borrow.Author.Tests.{leb-true}
+use lib.Dec.{leb}
 use lib.ListN.{length, drop, getD}
 use mir.Syntax.{w64}
 use mir.Val.{Fits}
@@ -12,7 +14,7 @@ use Rattle.reading.proofs.Utf8.{plain, width}
 use Rattle.reading.proofs.Utf8Longest.{ends}
 use Rattle.utf8.specs.Fits.{all-fit}
 use Rattle.utf8.proofs.Bytes.{bytes-passed}
-use Rattle.utf8.proofs.Places.{run-room, run-on, sequence-room}
+use Rattle.utf8.proofs.Places.{plain-room, run-room, run-on, sequence-room}
 use Rattle.utf8.specs.Skips.{Last-begins, Skips}
 
 module _ {s : List ℕ} {low high r : ℕ} (h : low ≤ r) (l : r < high) where
@@ -42,6 +44,10 @@ run-skips s at h e = record { from = omega arith; room = run-room s at e h; same
 
 pub skips-on : (s : List ℕ) (at i r : ℕ) → Skips s at i → Skips s i r → Skips s at r
 skips-on s at i r g h = record { from = omega (arith, g .from, h .from); room = h .room; same = h .same ∙ g .same }
+
+-- past all, where all are UTF8-1
+pub all-skips : (s : List ℕ) {x : Bool} → x ≡ leb (length s) (plain s) → x ≡ true → Skips s 0 (length s)
+all-skips s e t = run-skips s 0 (omega arith) (omega (arith, plain-room s 0, leb-true (length s) (plain s) (sym e ∙ t)))
 
 -- ---- the walk: a skip, and a character
 module _ (s : List ℕ) (at r : ℕ) (g : Skips s at r) where

@@ -70,11 +70,11 @@ fn utf8_4(s: &[u8], at: usize, a: u8, b: u8, c: u8) -> usize
     0
 }
 
-// UTF8-octets: how many bytes its longest well-formed beginning has; all of them, where they are UTF-8. `skip::past` saves time and decides nothing.
+// UTF8-octets: how many bytes its longest well-formed beginning has; all of them, where they are UTF-8. The skips save time and decide nothing.
 pub fn well_formed(s: &[u8]) -> usize
     ensures { λ r. ⌜ r ≡ well-formed (now (s .entry)) ⌝ }
 {
-    let mut at = 0;
+    let mut at = skip::short(s);
     while at < s.len() {
         at = skip::past(s, at);
         let n = utf8_char(s, at);

@@ -1,14 +1,13 @@
 // Ways to skip what the table of lib.rt would accept, many bytes at once. They decide nothing: to go on from where a skip ends is the same as to
 // go on by the rows, and without them every answer stays.
 ghost use mathlib.Core.Path.{_≡_};
-ghost use mathlib.Core.Bool.{true};
 ghost use Prim.Native.Nat.{_+_, _*_, _/_, _≤_, _<_};
 ghost use lib.ListN.{length, drop};
 ghost use lib.Dec.{leb};
 ghost use Rattle.reading.proofs.Utf8.{plain};
 ghost use Rattle.utf8.specs.Numbers.{number, Bytes};
 ghost use Rattle.utf8.specs.Fits.{begins, awaited, least, most, second, fits, all-fit};
-ghost use Rattle.utf8.specs.Skips.{Last-begins, Skips};
+ghost use Rattle.utf8.specs.Skips.{Last-begins, Skips, last-plain};
 use crate::ranges::among;
 use crate::tail;
 
@@ -34,13 +33,28 @@ fn eight(s: &[u8], at: usize) -> u64
     ((((((h * 256 + g) * 256 + f) * 256 + e) * 256 + d) * 256 + c) * 256 + b) * 256 + a
 }
 
-// Whether the n bytes at `at` are all UTF8-1: no branch for a byte, so that they are tested at once; eight by the highest bit of each.
+// The number of four bytes, likewise.
+fn four(s: &[u8], at: usize) -> u64
+    requires { ⌜ at + 4 ≤ length (now s) ⌝ }
+    ensures { λ r. ⌜ (r ≡ number 4 (now (s .entry)) at 0) × Bytes 4 (now (s .entry)) at 0 ⌝ }
+{
+    let a = wide(s[at]);
+    let b = wide(s[at + 1]);
+    let c = wide(s[at + 2]);
+    let d = wide(s[at + 3]);
+    ((d * 256 + c) * 256 + b) * 256 + a
+}
+
+// Whether the n bytes at `at` are all UTF8-1: no branch for a byte, so that they are tested at once; eight and four by the highest bit of each.
 fn block(s: &[u8], at: usize, n: usize) -> bool
     requires { ⌜ at + n ≤ length (now s) ⌝ }
     ensures { λ r. ⌜ r ≡ leb n (plain (drop at (now (s .entry)))) ⌝ }
 {
     if n == 8 {
         return eight(s, at) & 0x8080808080808080 == 0;
+    }
+    if n == 4 {
+        return four(s, at) & 0x80808080 == 0;
     }
     let mut all = true;
     let mut i = 0;
@@ -84,10 +98,10 @@ fn past_bytes(s: &[u8], at: usize) -> usize
     i
 }
 
-// Whether fewer than eight bytes are left at i, and the last eight are all UTF8-1.
+// Whether at most eight bytes are left at i, and the last eight are all UTF8-1.
 fn last_eight(s: &[u8], i: usize) -> bool
     requires { ⌜ i ≤ length (now s) ⌝ }
-    ensures { λ r. ⌜ (r ≡ true → i + plain (drop i (now (s .entry))) ≡ length (now (s .entry))) ⌝ }
+    ensures { λ r. ⌜ r ≡ last-plain 8 (now (s .entry)) i ⌝ }
 {
     if s.len() < 8 {
         return false;
@@ -256,4 +270,39 @@ pub fn past(s: &[u8], at: usize) -> usize
         return run;
     }
     past_windows(s, run, 64)
+}
+
+// Whether all bytes are UTF8-1: the first k and the last k are looked at, and there are no others.
+fn both_ends(s: &[u8], k: usize) -> bool
+    requires { ⌜ k ≤ length (now s) ⌝ }
+    requires { ⌜ length (now s) ≤ k + k ⌝ }
+    ensures { λ r. ⌜ r ≡ leb (length (now (s .entry))) (plain (now (s .entry))) ⌝ }
+{
+    if block(s, 0, k) {
+        return block(s, s.len() - k, k);
+    }
+    false
+}
+
+// Past all bytes, where there are 4 to 16 and all are UTF8-1, by two looks; otherwise past none.
+pub fn short(s: &[u8]) -> usize
+    ensures { λ r. ⌜ Skips (now (s .entry)) 0 r ⌝ }
+{
+    let n = s.len();
+    if 16 < n {
+        return 0;
+    }
+    if n < 4 {
+        return 0;
+    }
+    if n < 8 {
+        if both_ends(s, 4) {
+            return n;
+        }
+        return 0;
+    }
+    if both_ends(s, 8) {
+        return n;
+    }
+    0
 }

@@ -24,6 +24,7 @@ well-formed-spec =
     (tie.spec
     Inv-loop
     μ-loop
+    (λ c κs. search walking)  -- short-requires
     (λ c. search walking)  -- loop-holds
     (λ c κs. search walking)  -- past-requires
     (λ c κs. search walking)  -- utf8-char-requires

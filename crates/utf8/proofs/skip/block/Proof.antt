@@ -7,7 +7,7 @@ use lib.Dec.{leb, leb·zero}
 use lib.ListN.{drop}
 use Rattle.reading.proofs.Utf8.{plain}
 use Rattle.utf8.proofs.Places.{plain-byte}
-use Rattle.utf8.proofs.Highs.{eight-plain}
+use Rattle.utf8.proofs.Highs.{highs, all-plain}
 use Rattle.utf8.proofs.skip.block.Statement.{statement}
 use Rattle.utf8.proofs.skip.block.Tie as tie
 
@@ -18,13 +18,16 @@ abbrev μ-loop : tie.MeasureT-loop
 μ-loop s at n all₀ i₀ all i = n - i
 
 pub block-spec : {M : Type 1} → statement M
+unfolding highs
 block-spec =
     tie.close
     (tie.spec
     Inv-loop
     μ-loop
     (λ c κs. search needs)  -- eight-requires
-    (λ c. eight-plain _ _ (c .eight .ensures) (c .before .if1 .taken) (search needs))  -- returns
+    (λ c. all-plain _ _ 8 (c .eight .ensures) (c .before .if1 .taken) (search needs))  -- returns
+    (λ c κs. search needs)  -- four-requires
+    (λ c. all-plain _ _ 4 (c .four .ensures) (c .before .if2 .taken) (search needs))  -- returns-2
     (λ c. (omega arith, rw leb·zero))  -- loop-holds
     (λ c. search needs)  -- add-among
     (λ c. search needs)  -- shared-slice-read-among
@@ -33,6 +36,7 @@ block-spec =
     (λ c. search needs)  -- loop-less
     (λ c.
     let p = c .before .before .before in
-    (omega arith, plain-byte (p .before .before .before .args .s .now) (p .before .before .before .args .at) (p .loop .i) (p .loop .inv .1) (c .among .ensures) (omega arith)))  -- loop-again
-    (λ c. let e : c .before .loop .i ≡ c .before .before .before .before .args .n = omega arith in cc)  -- returns
+    let f = p .before .before .before .before in
+    (omega arith, plain-byte (f .args .s .now) (f .args .at) (p .loop .i) (p .loop .inv .1) (c .among .ensures) (omega arith)))  -- loop-again
+    (λ c. let e : c .before .loop .i ≡ c .before .before .before .before .before .args .n = omega arith in cc)  -- returns-3
     )

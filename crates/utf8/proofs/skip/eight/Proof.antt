@@ -1,6 +1,6 @@
 -- `utf8::skip::eight` meets its contract. Assumes nothing.
 use borrow.Author.Needs.{needs}
-use Rattle.utf8.proofs.Highs.{eight-is}
+use Rattle.utf8.proofs.Highs.{last-read, more-read, first-read}
 use Rattle.utf8.proofs.skip.eight.Statement.{statement}
 use Rattle.utf8.proofs.skip.eight.Tie as tie
 
@@ -53,6 +53,5 @@ eight-spec =
     let w3 = w4 .before .before in
     let w2 = w3 .before .before in
     let w1 = w2 .before .before in
-    let f = w1 .before .before .before in
-    eight-is (f .args .s .now) (f .args .at) (w1 .wide .ensures) (w2 .wide2 .ensures) (w3 .wide3 .ensures) (w4 .wide4 .ensures) (w5 .wide5 .ensures) (w6 .wide6 .ensures) (w7 .wide7 .ensures) (c .wide8 .ensures))  -- returns
+    first-read _ _ 7 (more-read _ _ 6 1 (more-read _ _ 5 2 (more-read _ _ 4 3 (more-read _ _ 3 4 (more-read _ _ 2 5 (more-read _ _ 1 6 (last-read _ _ 7 (c .wide8 .ensures)) (w7 .wide7 .ensures)) (w6 .wide6 .ensures)) (w5 .wide5 .ensures)) (w4 .wide4 .ensures)) (w3 .wide3 .ensures)) (w2 .wide2 .ensures)) (w1 .wide .ensures))  -- returns
     )

@@ -1,7 +1,7 @@
 -- `utf8::skip::past_run` meets its contract. Assumes nothing.
-use mathlib.Core.Path.{sym}
 use borrow.Author.Needs.{needs}
 use Rattle.utf8.proofs.Places.{run-none, run-ends}
+use Rattle.utf8.proofs.Highs.{last-rest}
 use Rattle.utf8.proofs.Whole.{blocks-inside, blocks-then}
 use Rattle.utf8.proofs.skip.past_run.Statement.{statement}
 use Rattle.utf8.proofs.skip.past_run.Tie as tie
@@ -18,7 +18,7 @@ past-run-spec =
     (λ c κs. search blocks)  -- past-blocks-requires
     (λ c κs. search blocks)  -- past-blocks-requires-2
     (λ c κs. search blocks)  -- last-eight-requires
-    (λ c. let p = c .before .before in blocks-then _ _ 64 (p .before .past-blocks .ensures) (blocks-then _ _ 8 (p .past-blocks2 .ensures) (sym (c .before .last-eight .ensures (c .if3 .taken)))))  -- returns-2
+    (λ c. let p = c .before .before in blocks-then _ _ 64 (p .before .past-blocks .ensures) (blocks-then _ _ 8 (p .past-blocks2 .ensures) (last-rest 8 _ _ (c .before .last-eight .ensures) (c .if3 .taken) (search blocks))))  -- returns-2
     (λ c κs. search blocks)  -- past-bytes-requires
     (λ c. search blocks)  -- returns-3
     (λ c. search blocks)  -- returns-4
