@@ -17,6 +17,7 @@ TOOLS = {
 }
 WARNINGS = ["-Wall", "-Wextra", "-Werror"]
 RELEASE = ["-O3"]
+SHIFTS = (0, 16, 32, 48)  # bytes; functions begin at multiples of sixteen, and a line of the cache has sixty-four
 CHECKED = ["-O1", "-g", "-fsanitize=address,undefined", "-fno-sanitize-recover=all"]
 INCLUDE = ["-I", os.path.join(ROOT, "include"), "-I", os.path.join(ROOT, "tools"), "-I", BENCH]
 
@@ -64,15 +65,17 @@ def compiled(name, sources, libraries, options=()):
 
 
 def measure(before=None):
-    """The program that measures; with `before`, the path of another build's library, it has that as a contestant too."""
+    """The program that measures, once for each place that its code is moved to; with `before`, the path of another build's library, it has
+    that as a contestant too."""
     tools = [os.path.join(ROOT, "tools", name) for name in ("layouts.c", "names.c")]
-    sources = [at(name) for name in ("measure.c", "contestants.c", "walk.c")]
+    sources = [at(name) for name in ("shift.c", "measure.c", "contestants.c", "walk.c")] + tools
     libraries = [library(), *with_crate(), "-Wl,-z,now"]
-    if before is None:
-        return compiled("measure", sources + tools, libraries, RELEASE)
-    other = made("before", "libhost.a")
-    output(["objcopy", "--prefix-symbols=before_", before, other], f"objcopy {before}")
-    return compiled("measure-against", sources + tools, [other, *libraries], ["-DBEFORE", *RELEASE])
+    name, options = "measure", list(RELEASE)
+    if before is not None:
+        other = made("before", "libhost.a")
+        output(["objcopy", "--prefix-symbols=before_", before, other], f"objcopy {before}")
+        name, options, libraries = "measure-against", ["-DBEFORE", *RELEASE], [other, *libraries]
+    return [compiled(f"{name}-{shift}", sources, libraries, [f"-DSHIFT={shift}", *options]) for shift in SHIFTS]
 
 
 def feed():

@@ -17,7 +17,7 @@
 #include "contestants.h"
 
 enum { ALIGN = 64, MOST_CONTESTANTS = 8 };
-static const double LEAST = 20e6; /* nanoseconds that a measurement takes at least, so that the clock's own do not show */
+static const double LEAST = 5e6; /* nanoseconds that a measurement takes at least, so that the clock's own do not show */
 
 /* A contestant, the first of its inputs and the end of them. */
 struct measured {

@@ -7,7 +7,8 @@ from statistics import median
 import making
 import workloads
 
-ROUNDS = 15
+ROUNDS = 44  # in all places of the code together
+FEW, LONG = 12, 1 << 20  # for cases of more bytes than this
 CONTESTANTS = ("ours", "fields", "crate", "walk", "floor")
 CALLGRIND = ["valgrind", "--tool=callgrind", "--collect-atstart=no", "--callgrind-out-file=/dev/null"]
 
@@ -20,8 +21,13 @@ def ran(words, case):
     return done
 
 
-def rounds(program, case, names, count=ROUNDS):
-    """So many rounds, each with the nanoseconds for one unit of every contestant."""
+def rounds(programs, case, names):
+    """The rounds of every program, each with the nanoseconds for one unit of every contestant."""
+    count = (FEW if sum(map(len, case.inputs)) > LONG else ROUNDS) // len(programs)
+    return [one for program in programs for one in rounds_of(program, case, names, count)]
+
+
+def rounds_of(program, case, names, count):
     lines = ran([program, str(count), *names], case).stdout.decode().split("\n")[:-1]
     found = [[float(word) for word in line.split()] for line in lines]
     if len(found) != count or any(len(one) != len(names) for one in found):
@@ -29,29 +35,35 @@ def rounds(program, case, names, count=ROUNDS):
     return found
 
 
-def times(program, case, names):
-    """The median over the rounds, in nanoseconds for one unit, by contestant."""
-    return dict(zip(names, map(median, zip(*rounds(program, case, names)))))
+class Figures(dict):
+    """The median over the rounds, for one unit, by contestant; and how two contestants compare."""
+
+    def __init__(self, names, rounds):
+        self.each = dict(zip(names, zip(*rounds)))
+        super().__init__({name: median(ns) for name, ns in self.each.items()})
+
+    def over(self, one, other):
+        """The median of one's figure over the other's in the same round: the machine's speed changes from round to round."""
+        return median(a / b for a, b in zip(self.each[one], self.each[other]))
 
 
-def pair(program, case, name):
-    """Of a case with two inputs, the nanoseconds of each, medians over the rounds; and the median of the second's over the first's."""
-    first, second = zip(*rounds(program, case, (f"{name}:0", f"{name}:1")))
-    return median(first), median(second), median(later / earlier for earlier, later in zip(first, second))
+def times(programs, case, names):
+    """In nanoseconds."""
+    return Figures(names, rounds(programs, case, names))
 
 
-def instructions(program, case, name):
+def instructions(programs, case, name):
     """The instructions of one pass over the case, for one unit."""
-    said = ran([*CALLGRIND, program, "--count", name], case).stderr
+    said = ran([*CALLGRIND, programs[0], "--count", name], case).stderr
     counted = re.search(rb"Collected : (\d+)", said)
     if not counted:
         raise making.Failed(f"case {case.name}: callgrind counted nothing")
     return int(counted.group(1)) / case.units
 
 
-def all_instructions(program, cases, names):
+def all_instructions(programs, cases, names):
     """For each case the instructions by contestant; two at a time, since noise does not move them."""
     with ThreadPoolExecutor(max_workers=2) as pool:
-        asked = {(case.name, name): pool.submit(instructions, program, case, name) for case in cases for name in names}
+        asked = {(case.name, name): pool.submit(instructions, programs, case, name) for case in cases for name in names}
         for case in cases:
-            yield case.name, {name: asked[case.name, name].result() for name in names}
+            yield case.name, Figures(names, [[asked[case.name, name].result() for name in names]])

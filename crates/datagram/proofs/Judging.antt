@@ -1,5 +1,5 @@
 -- One datagram, taken apart: its header, its samples, and its own range around them. Assumes nothing.
-use Prim.Native.Nat.{ℕ, _+_, _*_, _-_, _^_, _≤_, _<_}
+use Prim.Native.Nat.{ℕ, _+_, _*_, _-_, _/_, _^_, _≤_, _<_}
 use mathlib.Core.Path.{_≡_, refl, sym, ap, _∙_, subst}
 use mathlib.Core.List.{List, [], _∷_, _++_}
 use native.Mathlib.Omega.{arith}
@@ -29,8 +29,8 @@ use Rattle.xdr.specs.Shown.{place, Inside, refusal}
 use Rattle.flows.specs.declared.next.Run.{Run}
 use Rattle.flows.specs.Chain.{Then, goes, halts, Ends, ends, There}
 use Rattle.flows.specs.Scanned.{Scan}
-use Rattle.flows.specs.Written.{Ready, Put, a-pen, placed}
-use Rattle.flows.proofs.Placing.{a-put, at-is, next-is, store-is, put-kept, own-last}
+use Rattle.flows.specs.Written.{index, Ready, Put, a-pen, held-by, placed}
+use Rattle.flows.proofs.Placing.{a-put, at-is, word-is, store-is, put-kept, own-last}
 use Rattle.samples.specs.Held.{Counted, on, over, Has-last, rest-of}
 use Rattle.flows.proofs.Chain.{both, within-start}
 use Rattle.flows.proofs.Scan.{scan-inside}
@@ -159,7 +159,7 @@ module _ (s l : List ℕ) (at base : ℕ) (g : Ready s l (root base) (follow dat
     unfolding size
     sizes = ap size (laid .1) ∙ add-zero _
 
-    pub samples-ready : Ready s l (a-pen base base 1) (times n (follow (sample 8)) s (from (d .at)))
+    pub samples-ready : Ready s l (a-pen base base row-words) (times n (follow (sample 8)) s (from (d .at)))
     samples-ready =
         let k = sizes in
         record { short = g .short; good = laid .0; room = omega (arith, g .room); few = omega (arith, g .few) }
@@ -167,11 +167,11 @@ module _ (s l : List ℕ) (at base : ℕ) (g : Ready s l (root base) (follow dat
     pub start32 : Fits w32 at
     start32 = record { fits = omega (arith, f, g .short) }
 
-    module _ {a b : ℕ} {l′ : List ℕ} (i : a-put a b l′ ≡ placed (a-pen base base 1) (times n (follow (sample 8)) s (from (d .at))) l) where
+    module _ {a b : ℕ} {l′ : List ℕ} (i : a-put a b l′ ≡ placed (a-pen base base row-words) (times n (follow (sample 8)) s (from (d .at))) l) where
       end-in : (d .at ≤ a) × (a ≤ length s)
       end-in =
           let y = forward-times (sample 8) n s (d .at) (ahead .1) (laid .0) in
-          let k = at-is (a-pen base base 1) _ l i in
+          let k = at-is (a-pen base base row-words) _ l i in
           (omega (arith, y .0), omega (arith, y .1))
 
       pub end-forward : at ≤ a
@@ -180,30 +180,30 @@ module _ (s l : List ℕ) (at base : ℕ) (g : Ready s l (root base) (follow dat
       pub length32 : Fits w32 (a - at)
       length32 = record { fits = omega (arith, end-in .1, g .short) }
 
-      pub own-room : row-words * 0 + row-words ≤ length l′
-      own-room = let k = sizes in omega (arith, g .room, put-kept (a-pen base base 1) _ l i)
+      pub own-room : 0 + row-words ≤ length l′
+      own-room = let k = sizes in omega (arith, g .room, put-kept (a-pen base base row-words) _ l i)
 
       abbrev own-range : Range
       own-range = record { kind = 0; format = 0; span = between at a; depth = 0; first = at }
 
-      module _ {l″ : List ℕ} (q : l″ ≡ write l′ (row-words * 0) (row-of nobody own-range)) where
+      module _ {l″ : List ℕ} (q : l″ ≡ write l′ 0 (row-of nobody own-range)) where
         pub datagram-kept : length l″ ≡ length l
-        datagram-kept = ap length q ∙ write-length _ _ _ ∙ put-kept (a-pen base base 1) _ l i
+        datagram-kept = ap length q ∙ write-length _ _ _ ∙ put-kept (a-pen base base row-words) _ l i
 
         pub datagram-placed : a-put a b l″ ≡ placed (root base) (follow datagram s (from at)) l
         unfolding placed
         datagram-placed =
-            let x : a ≡ end-of (times n (follow (sample 8)) s (from (d .at))) = at-is (a-pen base base 1) _ l i in
-            let y : b ≡ 1 + size (ranges-of (times n (follow (sample 8)) s (from (d .at)))) = next-is (a-pen base base 1) _ l i in
-            let k : l′ ≡ write l (row-words * (0 + 1)) (rows (base + (0 + 1)) (base + 0) (ranges-of (times n (follow (sample 8)) s (from (d .at))))) =
-            store-is (a-pen base base 1) _ l i ∙ ap (λ (m : ℕ). write l row-words (rows (base + 1) m (ranges-of (times n (follow (sample 8)) s (from (d .at)))))) (sym (add-zero base)) in
+            let x : a ≡ end-of (times n (follow (sample 8)) s (from (d .at))) = at-is (a-pen base base row-words) _ l i in
+            let y : b ≡ row-words + row-words * size (ranges-of (times n (follow (sample 8)) s (from (d .at)))) = word-is (a-pen base base row-words) _ l i in
+            let k : l′ ≡ write l (0 + row-words) (rows (index (held-by base 0)) (base + 0 / row-words) (ranges-of (times n (follow (sample 8)) s (from (d .at))))) =
+            store-is (a-pen base base row-words) _ l i ∙ ap (λ (m : ℕ). write l row-words (rows (base + 1) m (ranges-of (times n (follow (sample 8)) s (from (d .at)))))) (sym (add-zero base)) in
             let t : tree own-range (ranges-of (times n (follow (sample 8)) s (from (d .at)))) bare ≡ ranges-of (follow datagram s (from at)) =
             ap (λ (m : ℕ). ranged 0 0 0 at (between at m) (ranges-of (times n (follow (sample 8)) s (from (d .at))))) x ∙ sym (laid .1) in
             let u : a ≡ end-of (follow datagram s (from at)) = x ∙ sym (laid .2) in
-            let m : b ≡ 0 + size (ranges-of (follow datagram s (from at))) = y ∙ rw sizes (omega arith) in
-            let z : l″ ≡ write l (row-words * 0) (rows (base + 0) nobody (ranges-of (follow datagram s (from at)))) =
+            let m : b ≡ 0 + row-words * size (ranges-of (follow datagram s (from at))) = y ∙ rw sizes (omega arith) in
+            let z : l″ ≡ write l 0 (rows (base + 0 / row-words) nobody (ranges-of (follow datagram s (from at)))) =
             own-last l base nobody 0 own-range (ranges-of (times n (follow (sample 8)) s (from (d .at)))) k q
-            ∙ ap (λ (o : Forest). write l (row-words * 0) (rows (base + 0) nobody o)) t in
-            λ j. record { at = u j; next = m j; store = z j }
+            ∙ ap (λ (o : Forest). write l 0 (rows (base + 0 / row-words) nobody o)) t in
+            λ j. record { at = u j; word = m j; store = z j }
 
 pub ruleset judging = (within-start, scan-inside, behind-cut, behind-last, counted-scan, last-there, last-fits, one-counts, heads-last, heads-within, judged-all, header-there, samples-ready, start32, end-forward, length32, own-room, datagram-kept, datagram-placed, put-kept, needs)

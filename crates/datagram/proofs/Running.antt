@@ -1,5 +1,5 @@
 -- A run of datagrams: a law for each need of its two passes, with the facts that the code has there. Assumes nothing.
-use Prim.Native.Nat.{ℕ, _+_, _*_, _-_, _≤_, _<_}
+use Prim.Native.Nat.{ℕ, _+_, _*_, _-_, _/_, _^_, _≤_, _<_}
 use mathlib.Core.Path.{_≡_, refl, sym, ap, _∙_}
 use mathlib.Core.List.{List, _++_}
 use native.Mathlib.Omega.{arith}
@@ -28,7 +28,7 @@ use Rattle.flows.specs.declared.put.Written.{Written}
 use Rattle.flows.specs.Scanned.{Scan, scanned-out}
 use Rattle.flows.specs.Written.{Ready, Put, written, placed}
 use Rattle.flows.proofs.Scan.{scan-on}
-use Rattle.flows.proofs.Placing.{a-put, two-placed, at-is, next-is, store-is, put-kept}
+use Rattle.flows.proofs.Placing.{a-put, two-placed, at-is, word-is, store-is, put-kept}
 use Rattle.datagram.specs.Shown.{root, pen-at}
 
 -- ---- the first pass
@@ -72,55 +72,53 @@ judge-over s c k e h =
     let y : k ≡ k + 0 = omega arith in
     ap (λ (n : ℕ). got n (place c)) y ∙ sym z ∙ e
 
--- ---- the second pass: one datagram, behind n descriptors
-module _ (s l : List ℕ) (at n : ℕ) (g : Ready s l (pen-at n) (follow datagram s (from at))) where
-  pub part-start : row-words * n ≤ length l
+-- ---- the second pass: one datagram, from a word on
+module _ (s l : List ℕ) (at w : ℕ) (g : Ready s l (pen-at w) (follow datagram s (from at))) where
+  pub part-start : w ≤ length l
   part-start = omega (arith, g .room)
 
-  pub part-fits : Fits w64 (row-words * n)
-  part-fits = record { fits = omega (arith, g .few) }
+  pub part-index : 0 + w / row-words < 2 ^ 32
+  part-index = omega (arith, g .few)
 
-  pub index-fits : Fits w32 n
-  index-fits = record { fits = omega (arith, g .few) }
+  module _ {i : ℕ} (u : i ≡ 0 + w / row-words) where
+    pub part-ready : Ready s (take (length l - w) (drop w l)) (root i) (follow datagram s (from at))
+    part-ready =
+        let m : length (rest l w) ≡ length l - w = ap length (rest-is l w) ∙ length-drop w l in
+        record { short = g .short; good = g .good; room = omega (arith, g .room, m); few = omega (arith, g .few) }
 
-  pub part-ready : Ready s (take (length l - row-words * n) (drop (row-words * n) l)) (root n) (follow datagram s (from at))
-  part-ready =
-      let m : length (rest l (row-words * n)) ≡ length l - row-words * n = ap length (rest-is l (row-words * n)) ∙ length-drop (row-words * n) l in
-      record { short = g .short; good = g .good; room = omega (arith, g .room, m); few = omega (arith, g .few) }
+    module _ {v : Written} {l′ : List ℕ} (e : written v l′ ≡ placed (root i) (follow datagram s (from at)) (take (length l - w) (drop w l))) where
+      more : v .word ≡ 0 + row-words * size (ranges-of (follow datagram s (from at)))
+      more = word-is (root i) _ _ e
 
-  module _ {v : Written} {l′ : List ℕ} (e : written v l′ ≡ placed (root n) (follow datagram s (from at)) (take (length l - row-words * n) (drop (row-words * n) l))) where
-    more : v .next ≡ 0 + size (ranges-of (follow datagram s (from at)))
-    more = next-is (root n) _ _ e
+      pub part-more : Fits w64 (w + v .word)
+      part-more = let y = more in record { fits = omega (arith, g .few) }
 
-    pub part-more : Fits w64 (n + v .next)
-    part-more = let y = more in record { fits = omega (arith, g .few) }
+      module _ {l″ : List ℕ} (q : l″ ≡ take w l ++ (l′ ++ drop (length l - w) (drop w l))) where
+        joined : l″ ≡ write l w (rows (0 + w / row-words) nobody (ranges-of (follow datagram s (from at))))
+        joined =
+            let x : i + 0 / row-words ≡ 0 + w / row-words = omega arith in
+            let y : l′ ≡ write (rest l w) 0 (rows (0 + w / row-words) nobody (ranges-of (follow datagram s (from at)))) =
+            store-is (root i) _ _ e ∙ ap (λ (m : ℕ). write (rest l w) 0 (rows m nobody (ranges-of (follow datagram s (from at))))) x in
+            q ∙ ap (λ (x : List ℕ). take w l ++ (x ++ drop (length l - w) (drop w l))) y ∙ write-rest l w (rows (0 + w / row-words) nobody (ranges-of (follow datagram s (from at)))) part-start
 
-    module _ {l″ : List ℕ} (q : l″ ≡ take (row-words * n) l ++ (l′ ++ drop (length l - row-words * n) (drop (row-words * n) l))) where
-      joined : l″ ≡ write l (row-words * n) (rows (0 + n) nobody (ranges-of (follow datagram s (from at))))
-      joined =
-          let x : n + 0 ≡ 0 + n = omega arith in
-          let y : l′ ≡ write (rest l (row-words * n)) 0 (rows (0 + n) nobody (ranges-of (follow datagram s (from at)))) =
-          store-is (root n) _ _ e ∙ ap (λ (m : ℕ). write (rest l (row-words * n)) 0 (rows m nobody (ranges-of (follow datagram s (from at))))) x in
-          q ∙ ap (λ (x : List ℕ). take (row-words * n) l ++ (x ++ drop (length l - row-words * n) (drop (row-words * n) l))) y ∙ write-rest l (row-words * n) (rows (0 + n) nobody (ranges-of (follow datagram s (from at)))) part-start
+        pub part-kept : length l″ ≡ length l
+        part-kept = ap length joined ∙ write-length _ _ _
 
-      pub part-kept : length l″ ≡ length l
-      part-kept = ap length joined ∙ write-length _ _ _
-
-      pub part-placed : a-put (v .at) (n + v .next) l″ ≡ placed (pen-at n) (follow datagram s (from at)) l
-      unfolding placed
-      part-placed =
-          let a = at-is (root n) _ _ e in
-          let b : n + v .next ≡ n + size (ranges-of (follow datagram s (from at))) = let y = more in omega arith in
-          let c = joined in
-          λ i. record { at = a i; next = b i; store = c i }
+        pub part-placed : a-put (v .at) (w + v .word) l″ ≡ placed (pen-at w) (follow datagram s (from at)) l
+        unfolding placed
+        part-placed =
+            let a = at-is (root i) _ _ e in
+            let b : w + v .word ≡ w + row-words * size (ranges-of (follow datagram s (from at))) = let y = more in omega arith in
+            let c = joined in
+            λ j. record { at = a j; word = b j; store = c j }
 
 -- ---- all of them
-module _ (s l : List ℕ) (cur end n : ℕ) (g : Ready s l (pen-at n) (run-from s (from cur))) (i : cur ≤ length s) (z : end ≡ end-of (run-from s (from cur))) where
-  pub run-all : (w : List ℕ) → end ≤ cur → placed (pen-at n) (run-from s (from cur)) l ≡ placed (pen-at 0) (run-from s (from 0)) w → l ≡ write w 0 (rows 0 nobody (ranges-of (run-from s (from 0))))
+module _ (s l : List ℕ) (cur end w : ℕ) (g : Ready s l (pen-at w) (run-from s (from cur))) (i : cur ≤ length s) (z : end ≡ end-of (run-from s (from cur))) where
+  pub run-all : (m : List ℕ) → end ≤ cur → placed (pen-at w) (run-from s (from cur)) l ≡ placed (pen-at 0) (run-from s (from 0)) m → l ≡ write m 0 (rows 0 nobody (ranges-of (run-from s (from 0))))
   unfolding placed rows
-  run-all w h e =
+  run-all m h e =
       let y = run-bare s cur i (g .good) (omega (arith, z)) in
-      sym (write-none l (row-words * n)) ∙ ap (λ (f : Forest). write l (row-words * n) (rows (0 + n) nobody f)) (sym y) ∙ ap (λ (p : Put). p .store) e
+      sym (write-none l (w)) ∙ ap (λ (f : Forest). write l (w) (rows (0 + w / row-words) nobody f)) (sym y) ∙ ap (λ (p : Put). p .store) e
 
   module _ (h : cur < end) where
     parts : Run-at s cur
@@ -129,17 +127,17 @@ module _ (s l : List ℕ) (cur end n : ℕ) (g : Ready s l (pen-at n) (run-from 
     sizes : size (ranges-of (run-from s (from cur))) ≡ size (ranges-of (follow datagram s (from cur))) + size (ranges-of (run-from s (from (end-of (follow datagram s (from cur))))))
     sizes = ap size (parts .ranges) ∙ size-joined _ _
 
-    pub first-ready : Ready s l (pen-at n) (follow datagram s (from cur))
+    pub first-ready : Ready s l (pen-at w) (follow datagram s (from cur))
     first-ready =
         let k = sizes in
         record { short = g .short; good = parts .first; room = omega (arith, g .room); few = omega (arith, g .few) }
 
-    module _ {v : Written} {l′ : List ℕ} (e : written v l′ ≡ placed (pen-at n) (follow datagram s (from cur)) l) where
+    module _ {v : Written} {l′ : List ℕ} (e : written v l′ ≡ placed (pen-at w) (follow datagram s (from cur)) l) where
       here : v .at ≡ end-of (follow datagram s (from cur))
-      here = at-is (pen-at n) _ l e
+      here = at-is (pen-at w) _ l e
 
-      next : v .next ≡ n + size (ranges-of (follow datagram s (from cur)))
-      next = next-is (pen-at n) _ l e
+      next : v .word ≡ w + row-words * size (ranges-of (follow datagram s (from cur)))
+      next = word-is (pen-at w) _ l e
 
       pub next-less : (t : ℕ) → end - cur ≡ t → end - v .at < t
       unfolding end-of
@@ -155,16 +153,16 @@ module _ (s l : List ℕ) (cur end n : ℕ) (g : Ready s l (pen-at n) (run-from 
       pub next-end : end ≡ end-of (run-from s (from (v .at)))
       next-end = z ∙ parts .end ∙ ap (λ (m : ℕ). end-of (run-from s (from m))) (sym here)
 
-      pub next-ready : Ready s l′ (pen-at (v .next)) (run-from s (from (v .at)))
+      pub next-ready : Ready s l′ (pen-at (v .word)) (run-from s (from (v .at)))
       next-ready =
           let k = sizes in
           let y = next in
-          let x = put-kept (pen-at n) _ l e in
+          let x = put-kept (pen-at w) _ l e in
           rw here (record { short = g .short; good = parts .rest; room = omega (arith, g .room); few = omega (arith, g .few) })
 
-      pub next-placed : {t : Put} → placed (pen-at n) (run-from s (from cur)) l ≡ t → placed (pen-at (v .next)) (run-from s (from (v .at))) l′ ≡ t
+      pub next-placed : {t : Put} → placed (pen-at w) (run-from s (from cur)) l ≡ t → placed (pen-at (v .word)) (run-from s (from (v .at))) l′ ≡ t
       unfolding placed
-      next-placed {t} u = rw here (two-placed 0 nobody n l (ranges-of (follow datagram s (from cur))) (ranges-of (run-from s (from (end-of (follow datagram s (from cur)))))) refl (parts .end) (parts .ranges) next (store-is (pen-at n) _ l e)) ∙ u
+      next-placed {t} u = rw here (two-placed 0 nobody w l (ranges-of (follow datagram s (from cur))) (ranges-of (run-from s (from (end-of (follow datagram s (from cur)))))) refl (parts .end) (parts .ranges) next (store-is (pen-at w) _ l e)) ∙ u
 
 pub ruleset running = (
   judge-on,
@@ -174,8 +172,7 @@ pub ruleset running = (
   judge-stops,
   judge-over,
   part-start,
-  part-fits,
-  index-fits,
+  part-index,
   part-ready,
   part-more,
   part-kept,

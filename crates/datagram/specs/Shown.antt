@@ -34,11 +34,11 @@ pub record Heads (s : List ℕ) (c : Cursor) (r : Run) : Type 0 where
 
 -- where a datagram's own descriptor goes: it has no parent
 abbrev pub root : ℕ → Pen
-root base = record { base = base; parent = nobody; next = 0 }
+root base = record { base = base; parent = nobody; word = 0 }
 
--- where the descriptors of a run's next datagram go, behind n of them
+-- where the descriptors of a run's next datagram go: from a word on
 abbrev pub pen-at : ℕ → Pen
-pen-at n = record { base = 0; parent = nobody; next = n }
+pen-at w = record { base = 0; parent = nobody; word = w }
 
 -- the answer to one datagram, with the store that it leaves
 abbrev pub decoded : Decoded → List ℕ → answer.Answer

@@ -15,6 +15,7 @@ ghost use Rattle.datagram.specs.Shown.{root};
 use crate::header;
 use flows::frames::Scanned;
 use flows::next::Run;
+use flows::put::DESCRIPTOR_WORDS;
 use flows::put::Descriptor;
 use flows::put::Pen;
 use flows::put::Written;
@@ -60,7 +61,7 @@ pub fn put_datagram(s: &[u8], at: usize, store: &mut [u32], base: u32) -> Writte
     let row = header::row(Cursor { at: at, steps: 0 }, s);
     let passed = row.passed;
     match passed {
-        Passed::Stop(_) => Written { at: 0, next: 0 },
+        Passed::Stop(_) => Written { at: 0, word: 0 },
         Passed::Got(d) => {
             let n = load::be32(s, row.at + 12);
             let w = put_samples(
@@ -71,7 +72,7 @@ pub fn put_datagram(s: &[u8], at: usize, store: &mut [u32], base: u32) -> Writte
                 Pen {
                     base: base,
                     parent: base,
-                    next: 1,
+                    word: DESCRIPTOR_WORDS,
                 },
             );
             let start = at as u32;

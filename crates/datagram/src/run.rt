@@ -18,6 +18,7 @@ use crate::one::put_datagram;
 use flows::frames::Scanned;
 use flows::put::DESCRIPTOR_WORDS;
 use flows::put::Written;
+use flows::put::index_at;
 use xdr::Cursor;
 
 // The first pass. Code 2 ends the run where the datagram that it stops began.
@@ -50,16 +51,16 @@ fn judge_run(s: &[u8]) -> Scanned
     Scanned::Got(cur, found)
 }
 
-// One datagram of a run, whose first descriptor has the index `next`: the rest of the store is lent to its writer.
-fn put_next(s: &[u8], at: usize, store: &mut [u32], next: usize) -> Written
+// One datagram of a run, whose first descriptor begins at a word: the rest of the store is lent to its writer.
+fn put_next(s: &[u8], at: usize, store: &mut [u32], word: usize) -> Written
     requires { ⌜ at ≤ length (now s) ⌝ }
-    requires { ⌜ Ready (now s) (now store) (pen-at next) (follow datagram (now s) (from at)) ⌝ }
-    ensures { λ r. ⌜ written r (now (store .exit)) ≡ placed (pen-at next) (follow datagram (now (s .entry)) (from at)) (now (store .entry)) ⌝ }
+    requires { ⌜ Ready (now s) (now store) (pen-at word) (follow datagram (now s) (from at)) ⌝ }
+    ensures { λ r. ⌜ written r (now (store .exit)) ≡ placed (pen-at word) (follow datagram (now (s .entry)) (from at)) (now (store .entry)) ⌝ }
 {
-    let w = put_datagram(s, at, &mut store[DESCRIPTOR_WORDS * next..], next as u32);
+    let w = put_datagram(s, at, &mut store[word..], index_at(0, word));
     Written {
         at: w.at,
-        next: next + w.next,
+        word: word + w.word,
     }
 }
 
@@ -70,11 +71,11 @@ fn put_run(s: &[u8], end: usize, store: &mut [u32])
     ensures { λ r. ⌜ now (store .exit) ≡ write (now (store .entry)) 0 (rows 0 nobody (ranges-of (run-from (now (s .entry)) (from 0)))) ⌝ }
 {
     let mut cur = 0;
-    let mut next = 0;
+    let mut word = 0;
     while cur < end {
-        let w = put_next(s, cur, &mut *store, next);
+        let w = put_next(s, cur, &mut *store, word);
         cur = w.at;
-        next = w.next;
+        word = w.word;
     }
 }
 

@@ -1,5 +1,5 @@
 -- The second pass: a law for each need of its functions, with the facts that the code has there. Assumes nothing.
-use Prim.Native.Nat.{ℕ, zero, suc, _+_, _*_, _-_, _/_, _%_, _≤_, _<_}
+use Prim.Native.Nat.{ℕ, zero, suc, _+_, _*_, _-_, _/_, _^_, _≤_, _<_}
 use mathlib.Core.Path.{_≡_, refl, sym, ap, _∙_}
 use mathlib.Core.List.{List, _++_}
 use native.Mathlib.Omega.{arith}
@@ -22,10 +22,10 @@ use Rattle.reading.proofs.Forward.{forward-times}
 use Rattle.flows.specs.declared.put.Pen.{Pen}
 use Rattle.flows.specs.declared.put.Flat.{Flat}
 use Rattle.flows.specs.Passing.{Flat-of}
-use Rattle.flows.specs.Written.{Ready, Put, packed, a-pen, placed, Filled, filled, fills, Framed-here, frame-range, framed-at}
+use Rattle.flows.specs.Written.{index, Ready, Put, a-pen, held-by, placed, Filled, filled, fills, Framed-here, frame-range, framed-at}
 
-abbrev pub a-put : (at next : ℕ) → List ℕ → Put
-a-put a n l = record { at = a; next = n; store = l }
+abbrev pub a-put : (at word : ℕ) → List ℕ → Put
+a-put a w l = record { at = a; word = w; store = l }
 
 -- what a pass leaves, in its parts
 module _ {a b : ℕ} {l′ : List ℕ} (pen : Pen) (o : Out Found) (l : List ℕ) (e : a-put a b l′ ≡ placed pen o l) where
@@ -33,11 +33,11 @@ module _ {a b : ℕ} {l′ : List ℕ} (pen : Pen) (o : Out Found) (l : List ℕ
   unfolding placed
   at-is = ap (λ (x : Put). x .at) e
 
-  pub next-is : b ≡ pen .next + size (ranges-of o)
+  pub word-is : b ≡ pen .word + row-words * size (ranges-of o)
   unfolding placed
-  next-is = ap (λ (x : Put). x .next) e
+  word-is = ap (λ (x : Put). x .word) e
 
-  pub store-is : l′ ≡ write l (row-words * pen .next) (rows (pen .base + pen .next) (pen .parent) (ranges-of o))
+  pub store-is : l′ ≡ write l (pen .word) (rows (index pen) (pen .parent) (ranges-of o))
   unfolding placed
   store-is = ap (λ (x : Put). x .store) e
 
@@ -48,116 +48,107 @@ module _ {a b : ℕ} {l′ : List ℕ} (pen : Pen) (o : Out Found) (l : List ℕ
 pub kept-on : {a b : ℕ} {l′ : List ℕ} (pen : Pen) (o : Out Found) (l : List ℕ) (n : ℕ) → a-put a b l′ ≡ placed pen o l → length l ≡ n → length l′ ≡ n
 kept-on pen o l n e k = put-kept pen o l e ∙ k
 
+-- k descriptors on, the index is k more
+pub index-on : (w k : ℕ) → (w + row-words * k) / row-words ≡ w / row-words + k
+index-on w k = omega arith
+
 -- one forest behind another is placed as the two of them
-module _ (base parent next : ℕ) (l : List ℕ) where
-  pub two-placed : {a b c m : ℕ} {t : Forest} {l″ : List ℕ} (f r : Forest) → b ≡ c → a ≡ b → t ≡ f ⊕ r → m ≡ next + size f → l″ ≡ write l (row-words * next) (rows (base + next) parent f)
-      → a-put c (m + size r) (write l″ (row-words * m) (rows (base + m) parent r)) ≡ a-put a (next + size t) (write l (row-words * next) (rows (base + next) parent t))
+module _ (base parent word : ℕ) (l : List ℕ) where
+  pub two-placed : {a b c m : ℕ} {t : Forest} {l″ : List ℕ} (f r : Forest) → b ≡ c → a ≡ b → t ≡ f ⊕ r → m ≡ word + row-words * size f → l″ ≡ write l word (rows (base + word / row-words) parent f)
+      → a-put c (m + row-words * size r) (write l″ m (rows (base + m / row-words) parent r)) ≡ a-put a (word + row-words * size t) (write l word (rows (base + word / row-words) parent t))
   two-placed {a} {b} {c} {m} {t} {l″} f r i j k x y =
-      let p : m + size r ≡ next + size t = ap (λ (v : ℕ). v + size r) x ∙ rw (k, size-joined) (omega arith) in
-      let q : base + m ≡ base + next + size f = omega arith in
-      let v : row-words * m ≡ row-words * next + length (rows (base + next) parent f) = rw rows-length (omega arith) in
-      let d : write l″ (row-words * m) (rows (base + m) parent r) ≡ write l (row-words * next) (rows (base + next) parent t) =
-      ap (λ (z : List ℕ). write z (row-words * m) (rows (base + m) parent r)) y
-      ∙ write-then (rows (base + next) parent f) (rows (base + m) parent r) l (row-words * next) (row-words * m) v
-      ∙ ap (λ (z : ℕ). write l (row-words * next) (rows (base + next) parent f ++ rows z parent r)) q
-      ∙ ap (λ (z : List ℕ). write l (row-words * next) z) (sym (rows-joined (base + next) parent f r))
-      ∙ ap (λ (z : Forest). write l (row-words * next) (rows (base + next) parent z)) (sym k) in
-      λ h. record { at = (sym i ∙ sym j) h; next = p h; store = d h }
+      let p : m + row-words * size r ≡ word + row-words * size t = ap (λ (v : ℕ). v + row-words * size r) x ∙ rw (k, size-joined) (omega arith) in
+      let q : base + m / row-words ≡ base + word / row-words + size f = rw (x, index-on) (omega arith) in
+      let v : m ≡ word + length (rows (base + word / row-words) parent f) = rw rows-length x in
+      let d : write l″ m (rows (base + m / row-words) parent r) ≡ write l word (rows (base + word / row-words) parent t) =
+      ap (λ (z : List ℕ). write z m (rows (base + m / row-words) parent r)) y
+      ∙ write-then (rows (base + word / row-words) parent f) (rows (base + m / row-words) parent r) l word m v
+      ∙ ap (λ (z : ℕ). write l word (rows (base + word / row-words) parent f ++ rows z parent r)) q
+      ∙ ap (λ (z : List ℕ). write l word z) (sym (rows-joined (base + word / row-words) parent f r))
+      ∙ ap (λ (z : Forest). write l word (rows (base + word / row-words) parent z)) (sym k) in
+      λ h. record { at = (sym i ∙ sym j) h; word = p h; store = d h }
 
 -- ---- so many in a row
-module _ (sc : Script) (n : ℕ) (s l : List ℕ) (at base parent next : ℕ) where
-  again : Ready s l (a-pen base parent next) (times n (follow sc) s (from at)) → 0 < n → Turn-at sc (n - 1) s at × (times n (follow sc) s (from at) ≡ times (suc (n - 1)) (follow sc) s (from at))
+module _ (sc : Script) (n : ℕ) (s l : List ℕ) (at base parent word : ℕ) where
+  again : Ready s l (a-pen base parent word) (times n (follow sc) s (from at)) → 0 < n → Turn-at sc (n - 1) s at × (times n (follow sc) s (from at) ≡ times (suc (n - 1)) (follow sc) s (from at))
   again g z =
       let e : n ≡ suc (n - 1) = omega arith in
       (turn-lies sc (n - 1) s at (rw e at (g .good)), ap (λ (m : ℕ). times m (follow sc) s (from at)) e)
 
   -- its ranges are the first one's, and the rest's
-  split-up : (g : Ready s l (a-pen base parent next) (times n (follow sc) s (from at))) (z : 0 < n)
+  split-up : (g : Ready s l (a-pen base parent word) (times n (follow sc) s (from at))) (z : 0 < n)
       → ranges-of (times n (follow sc) s (from at)) ≡ ranges-of (follow sc s (from at)) ⊕ ranges-of (times (n - 1) (follow sc) s (from (end-of (follow sc s (from at)))))
   split-up g z = let t = again g z in ap ranges-of (t .1) ∙ t .0 .ranges
 
-  sizes : (g : Ready s l (a-pen base parent next) (times n (follow sc) s (from at))) (z : 0 < n)
+  sizes : (g : Ready s l (a-pen base parent word) (times n (follow sc) s (from at))) (z : 0 < n)
       → size (ranges-of (times n (follow sc) s (from at))) ≡ size (ranges-of (follow sc s (from at))) + size (ranges-of (times (n - 1) (follow sc) s (from (end-of (follow sc s (from at))))))
   sizes g z = ap size (split-up g z) ∙ size-joined _ _
 
-  pub ready-first : Ready s l (a-pen base parent next) (times n (follow sc) s (from at)) → 0 < n → Ready s l (a-pen base parent next) (follow sc s (from at))
+  pub ready-first : Ready s l (a-pen base parent word) (times n (follow sc) s (from at)) → 0 < n → Ready s l (a-pen base parent word) (follow sc s (from at))
   ready-first g z =
       let t = again g z in
       let k = sizes g z in
       record { short = g .short; good = t .0 .first; room = omega (arith, g .room); few = omega (arith, g .few) }
 
-  module _ {a b : ℕ} {l′ : List ℕ} (e : a-put a b l′ ≡ placed (a-pen base parent next) (follow sc s (from at)) l) (g : Ready s l (a-pen base parent next) (times n (follow sc) s (from at))) (z : 0 < n) where
+  module _ {a b : ℕ} {l′ : List ℕ} (e : a-put a b l′ ≡ placed (a-pen base parent word) (follow sc s (from at)) l) (g : Ready s l (a-pen base parent word) (times n (follow sc) s (from at))) (z : 0 < n) where
     end : a ≡ end-of (follow sc s (from at))
-    end = at-is (a-pen base parent next) _ l e
+    end = at-is (a-pen base parent word) _ l e
 
-    on : b ≡ next + size (ranges-of (follow sc s (from at)))
-    on = next-is (a-pen base parent next) _ l e
+    on : b ≡ word + row-words * size (ranges-of (follow sc s (from at)))
+    on = word-is (a-pen base parent word) _ l e
 
     pub ready-next : Ready s l′ (a-pen base parent b) (times (n - 1) (follow sc) s (from a))
     ready-next =
         let t = again g z in
         let k = sizes g z in
-        let h = put-kept (a-pen base parent next) _ l e in
+        let h = put-kept (a-pen base parent word) _ l e in
         let j = on in
         rw end (record { short = g .short; good = t .0 .rest; room = omega (arith, g .room); few = omega (arith, g .few) })
 
-    pub put-turn : {u : Put} → placed (a-pen base parent next) (times n (follow sc) s (from at)) l ≡ u → placed (a-pen base parent b) (times (n - 1) (follow sc) s (from a)) l′ ≡ u
+    pub put-turn : {u : Put} → placed (a-pen base parent word) (times n (follow sc) s (from at)) l ≡ u → placed (a-pen base parent b) (times (n - 1) (follow sc) s (from a)) l′ ≡ u
     unfolding placed
-    put-turn {u} h = rw end (two-placed base parent next l (ranges-of (follow sc s (from at))) (ranges-of (times (n - 1) (follow sc) s (from (end-of (follow sc s (from at)))))) (again g z .0 .end) (ap end-of (again g z .1)) (split-up g z) on (store-is (a-pen base parent next) _ l e)) ∙ h
+    put-turn {u} h = rw end (two-placed base parent word l (ranges-of (follow sc s (from at))) (ranges-of (times (n - 1) (follow sc) s (from (end-of (follow sc s (from at)))))) (again g z .0 .end) (ap end-of (again g z .1)) (split-up g z) on (store-is (a-pen base parent word) _ l e)) ∙ h
 
-  pub put-done : {u : Put} → placed (a-pen base parent next) (times n (follow sc) s (from at)) l ≡ u → n ≤ 0 → a-put at next l ≡ u
+  pub put-done : {u : Put} → placed (a-pen base parent word) (times n (follow sc) s (from at)) l ≡ u → n ≤ 0 → a-put at word l ≡ u
   unfolding placed size rows
   put-done {u} h z =
       let y : n ≡ 0 = omega arith in
       let x = none-lies sc s at in
-      let e : a-put at next l ≡ placed (a-pen base parent next) (times 0 (follow sc) s (from at)) l =
+      let e : a-put at word l ≡ placed (a-pen base parent word) (times 0 (follow sc) s (from at)) l =
       sym (rw (x .0, x .1, add-zero, write-none)) in
       e ∙ (rw y at h)
 
 -- ---- one range: its own words, and what it holds behind them
-module _ (l : List ℕ) (base parent next : ℕ) (r : Range) (inner : Forest) where
+module _ (l : List ℕ) (base parent word : ℕ) (r : Range) (inner : Forest) where
   abbrev words-of : List ℕ
   words-of = row-of parent r
 
-  both-written : write l (row-words * next) (words-of ++ rows (base + (next + 1)) (base + next) inner) ≡ write l (row-words * next) (rows (base + next) parent (tree r inner bare))
-  both-written =
-      let k : base + (next + 1) ≡ base + next + 1 = omega arith in
-      ap (λ (z : ℕ). write l (row-words * next) (words-of ++ rows z (base + next) inner)) k ∙ ap (λ (z : List ℕ). write l (row-words * next) z) (sym (rows-one (base + next) parent r inner))
+  -- what it holds, as it is written behind its own words
+  abbrev held : List ℕ
+  held = rows (index (held-by base word)) (base + word / row-words) inner
 
-  row-on : row-words * (next + 1) ≡ row-words * next + length words-of
-  row-on = omega arith
+  both-written : write l word (words-of ++ held) ≡ write l word (rows (base + word / row-words) parent (tree r inner bare))
+  both-written =
+      let k : base + (word + row-words) / row-words ≡ base + word / row-words + 1 = omega arith in
+      ap (λ (z : ℕ). write l word (words-of ++ rows z (base + word / row-words) inner)) k ∙ ap (λ (z : List ℕ). write l word z) (sym (rows-one (base + word / row-words) parent r inner))
 
   -- first its own
-  own-first : {l′ l″ : List ℕ} → l′ ≡ write l (row-words * next) words-of → l″ ≡ write l′ (row-words * (next + 1)) (rows (base + (next + 1)) (base + next) inner) → l″ ≡ write l (row-words * next) (rows (base + next) parent (tree r inner bare))
-  own-first h q =
-      q ∙ ap (λ (z : List ℕ). write z (row-words * (next + 1)) (rows (base + (next + 1)) (base + next) inner)) h
-      ∙ write-then words-of (rows (base + (next + 1)) (base + next) inner) l (row-words * next) (row-words * (next + 1)) row-on ∙ both-written
+  own-first : {l′ l″ : List ℕ} → l′ ≡ write l word words-of → l″ ≡ write l′ (word + row-words) held → l″ ≡ write l word (rows (base + word / row-words) parent (tree r inner bare))
+  own-first h q = q ∙ ap (λ (z : List ℕ). write z (word + row-words) held) h ∙ write-then words-of held l word (word + row-words) refl ∙ both-written
 
   -- or its own last
-  pub own-last : {l′ l″ : List ℕ} → l′ ≡ write l (row-words * (next + 1)) (rows (base + (next + 1)) (base + next) inner) → l″ ≡ write l′ (row-words * next) words-of → l″ ≡ write l (row-words * next) (rows (base + next) parent (tree r inner bare))
-  own-last h q =
-      q ∙ ap (λ (z : List ℕ). write z (row-words * next) words-of) h
-      ∙ write-under words-of (rows (base + (next + 1)) (base + next) inner) l (row-words * next) (row-words * (next + 1)) row-on ∙ both-written
+  pub own-last : {l′ l″ : List ℕ} → l′ ≡ write l (word + row-words) held → l″ ≡ write l′ word words-of → l″ ≡ write l word (rows (base + word / row-words) parent (tree r inner bare))
+  own-last h q = q ∙ ap (λ (z : List ℕ). write z word words-of) h ∙ write-under words-of held l word (word + row-words) refl ∙ both-written
 
 -- ---- numbers that fit
 module _ (s l : List ℕ) (pen : Pen) (o : Out Found) (g : Ready s l pen o) where
-  pub pen-next : Fits w32 (pen .next)
-  pen-next = record { fits = omega (arith, g .few) }
-
-  pub pen-me : Fits w32 (pen .base + pen .next)
-  pen-me = record { fits = omega (arith, g .few) }
-
-  pub pen-more : Fits w64 (pen .next + 1)
-  pen-more = record { fits = omega (arith, g .few) }
-
--- the index of the range itself
-abbrev me : Pen → ℕ
-me p = p .base + p .next
+  pub pen-index : index pen < 2 ^ 32
+  pen-index = omega (arith, g .few)
 
 -- ---- the first of some PDUs
-module _ (left : ℕ) (s l : List ℕ) (at base parent next rest : ℕ) (g : Ready s l (a-pen base parent next) (times rest (follow (pdu (8 - left) (flow 8 left))) s (from at))) (z : 0 < rest) where
-  one : Ready s l (a-pen base parent next) (follow (pdu (8 - left) (flow 8 left)) s (from at))
-  one = ready-first (pdu (8 - left) (flow 8 left)) rest s l at base parent next g z
+module _ (left : ℕ) (s l : List ℕ) (at base parent word rest : ℕ) (g : Ready s l (a-pen base parent word) (times rest (follow (pdu (8 - left) (flow 8 left))) s (from at))) (z : 0 < rest) where
+  one : Ready s l (a-pen base parent word) (follow (pdu (8 - left) (flow 8 left)) s (from at))
+  one = ready-first (pdu (8 - left) (flow 8 left)) rest s l at base parent word g z
 
   pdu-at : Pdu-at (8 - left) (flow 8 left) s at
   pdu-at = pdu-lies (8 - left) (flow 8 left) s at (one .good)
@@ -174,31 +165,25 @@ module _ (left : ℕ) (s l : List ℕ) (at base parent next rest : ℕ) (g : Rea
   pub pdu-first32 : Fits w32 at
   pdu-first32 = record { fits = omega (arith, pdu-word, g .short) }
 
-  pub pdu-next : Fits w32 next
-  pdu-next = record { fits = omega (arith, g .few) }
-
-  pub pdu-me : Fits w32 (base + next)
-  pdu-me = record { fits = omega (arith, g .few) }
-
-  pub pdu-more : Fits w64 (next + 1)
+  pub pdu-more : Fits w64 (word + row-words)
   pdu-more = record { fits = omega (arith, g .few) }
 
   pdu-size : size (ranges-of (follow (pdu (8 - left) (flow 8 left)) s (from at))) ≡ 1 + size (ranges-of (times (be4 s at) (follow (flow 8 left)) s (from (at + 4))))
   unfolding size
   pdu-size = ap size (pdu-at .ranges) ∙ add-zero _
 
-  module _ {n : ℕ} (v : n ≡ be4 s at) where
-    pub pdu-inner : Ready s l (a-pen base (base + next) (next + 1)) (times n (follow (flow 8 left)) s (from (at + 4)))
+  module _ {n me : ℕ} (v : n ≡ be4 s at) (u : me ≡ base + word / row-words) where
+    pub pdu-inner : Ready s l (a-pen base me (word + row-words)) (times n (follow (flow 8 left)) s (from (at + 4)))
     pdu-inner =
         let k = pdu-size in
         rw v (record { short = g .short; good = pdu-at .inner; room = omega (arith, one .room); few = omega (arith, one .few) })
 
     -- its records were written, with it as their parent
-    module _ {a b : ℕ} {l′ : List ℕ} (e : a-put a b l′ ≡ placed (a-pen base (base + next) (next + 1)) (times n (follow (flow 8 left)) s (from (at + 4))) l) where
+    module _ {a b : ℕ} {l′ : List ℕ} (e : a-put a b l′ ≡ placed (a-pen base me (word + row-words)) (times n (follow (flow 8 left)) s (from (at + 4))) l) where
       pdu-end : (at + 4 ≤ a) × (a ≤ length s)
       pdu-end =
           let f = forward-times (flow 8 left) n s (at + 4) pdu-word (pdu-inner .good) in
-          let k = at-is (a-pen base (base + next) (next + 1)) _ l e in
+          let k = at-is (a-pen base me (word + row-words)) _ l e in
           (omega (arith, f .0), omega (arith, f .1))
 
       pub pdu-forward : at + 4 ≤ a
@@ -207,50 +192,56 @@ module _ (left : ℕ) (s l : List ℕ) (at base parent next rest : ℕ) (g : Rea
       pub pdu-length32 : Fits w32 (a - (at + 4))
       pdu-length32 = record { fits = omega (arith, pdu-end .1, g .short) }
 
-      pub pdu-own : row-words * next + row-words ≤ length l′
-      pdu-own = let k = pdu-size in omega (arith, one .room, put-kept (a-pen base (base + next) (next + 1)) _ l e)
+      pub pdu-own : word + row-words ≤ length l′
+      pdu-own = let k = pdu-size in omega (arith, one .room, put-kept (a-pen base me (word + row-words)) _ l e)
 
       abbrev own-range : Range
       own-range = record { kind = 4; format = 0; span = between (at + 4) a; depth = 8 - left; first = at }
 
-      module _ {l″ : List ℕ} (q : l″ ≡ write l′ (row-words * next) (row-of parent own-range)) where
-        pdu-placed : a-put a b l″ ≡ placed (a-pen base parent next) (follow (pdu (8 - left) (flow 8 left)) s (from at)) l
+      module _ {l″ : List ℕ} (q : l″ ≡ write l′ word (row-of parent own-range)) where
+        pdu-placed : a-put a b l″ ≡ placed (a-pen base parent word) (follow (pdu (8 - left) (flow 8 left)) s (from at)) l
         unfolding placed
         pdu-placed =
-            let i : a ≡ end-of (times (be4 s at) (follow (flow 8 left)) s (from (at + 4))) = rw v at (at-is (a-pen base (base + next) (next + 1)) _ l e) in
-            let j : b ≡ next + 1 + size (ranges-of (times (be4 s at) (follow (flow 8 left)) s (from (at + 4)))) = rw v at (next-is (a-pen base (base + next) (next + 1)) _ l e) in
-            let k : l′ ≡ write l (row-words * (next + 1)) (rows (base + (next + 1)) (base + next) (ranges-of (times (be4 s at) (follow (flow 8 left)) s (from (at + 4))))) = rw v at (store-is (a-pen base (base + next) (next + 1)) _ l e) in
+            let i : a ≡ end-of (times (be4 s at) (follow (flow 8 left)) s (from (at + 4))) = rw v at (at-is (a-pen base me (word + row-words)) _ l e) in
+            let j : b ≡ word + row-words + row-words * size (ranges-of (times (be4 s at) (follow (flow 8 left)) s (from (at + 4)))) = rw v at (word-is (a-pen base me (word + row-words)) _ l e) in
+            let k : l′ ≡ write l (word + row-words) (rows (index (held-by base word)) (base + word / row-words) (ranges-of (times (be4 s at) (follow (flow 8 left)) s (from (at + 4))))) = rw (v, u) at (store-is (a-pen base me (word + row-words)) _ l e) in
             let t : tree own-range (ranges-of (times (be4 s at) (follow (flow 8 left)) s (from (at + 4)))) bare ≡ ranges-of (follow (pdu (8 - left) (flow 8 left)) s (from at)) =
             ap (λ (m : ℕ). ranged 4 0 (8 - left) at (between (at + 4) m) (ranges-of (times (be4 s at) (follow (flow 8 left)) s (from (at + 4))))) i ∙ sym (pdu-at .ranges) in
             let x : a ≡ end-of (follow (pdu (8 - left) (flow 8 left)) s (from at)) = i ∙ sym (pdu-at .end) in
-            let y : b ≡ next + size (ranges-of (follow (pdu (8 - left) (flow 8 left)) s (from at))) = j ∙ rw pdu-size (omega arith) in
-            let d : l″ ≡ write l (row-words * next) (rows (base + next) parent (ranges-of (follow (pdu (8 - left) (flow 8 left)) s (from at)))) =
-            own-last l base parent next own-range (ranges-of (times (be4 s at) (follow (flow 8 left)) s (from (at + 4)))) k q
-            ∙ ap (λ (x : Forest). write l (row-words * next) (rows (base + next) parent x)) t in
-            λ h. record { at = x h; next = y h; store = d h }
+            let y : b ≡ word + row-words * size (ranges-of (follow (pdu (8 - left) (flow 8 left)) s (from at))) = j ∙ rw pdu-size (omega arith) in
+            let d : l″ ≡ write l word (rows (base + word / row-words) parent (ranges-of (follow (pdu (8 - left) (flow 8 left)) s (from at)))) =
+            own-last l base parent word own-range (ranges-of (times (be4 s at) (follow (flow 8 left)) s (from (at + 4)))) k q
+            ∙ ap (λ (x : Forest). write l word (rows (base + word / row-words) parent x)) t in
+            λ h. record { at = x h; word = y h; store = d h }
 
         -- and then its own descriptor
-        pub pdu-turn : {m : ℕ} {u : Put} → length l ≡ m → placed (a-pen base parent next) (times rest (follow (pdu (8 - left) (flow 8 left))) s (from at)) l ≡ u
+        pub pdu-turn : {m : ℕ} {u : Put} → length l ≡ m → placed (a-pen base parent word) (times rest (follow (pdu (8 - left) (flow 8 left))) s (from at)) l ≡ u
             → (length l″ ≡ m) × Ready s l″ (a-pen base parent b) (times (rest - 1) (follow (pdu (8 - left) (flow 8 left))) s (from a))
             × (placed (a-pen base parent b) (times (rest - 1) (follow (pdu (8 - left) (flow 8 left))) s (from a)) l″ ≡ u)
         pdu-turn k h = (
-          kept-on (a-pen base parent next) _ l _ pdu-placed k,
-          ready-next (pdu (8 - left) (flow 8 left)) rest s l at base parent next pdu-placed g z,
-          put-turn (pdu (8 - left) (flow 8 left)) rest s l at base parent next pdu-placed g z h,
+          kept-on (a-pen base parent word) _ l _ pdu-placed k,
+          ready-next (pdu (8 - left) (flow 8 left)) rest s l at base parent word pdu-placed g z,
+          put-turn (pdu (8 - left) (flow 8 left)) rest s l at base parent word pdu-placed g z h,
         )
 
 -- ---- what a record holds
 abbrev holds : ℕ → ℕ → Script
 holds left f = opened (flows (pdu (8 - left) (flow 8 left))) f
 
--- an aggregation: its PDU count, and its PDUs
-module _ (left : ℕ) (s l : List ℕ) (at : ℕ) (pen : Pen) (g : Ready s l pen (follow (opened (flows (pdu (8 - left) (flow 8 left))) 1016) s (from at))) (i : at ≤ length s) where
+-- an aggregation, whose own descriptor is at a word: its PDU count, and its PDUs
+module _ (left : ℕ) (s l : List ℕ) (at base word : ℕ) (g : Ready s l (held-by base word) (follow (opened (flows (pdu (8 - left) (flow 8 left))) 1016) s (from at))) (i : at ≤ length s) where
   pub data-word : at + 4 ≤ length s
   unfolding opened flows
   data-word = words-lie 1 _ s at i (g .good)
 
   pub data-start : Fits w64 (at + 4)
   data-start = record { fits = omega (arith, data-word, g .short) }
+
+  pub data-index : base + word / row-words < 2 ^ 32
+  data-index = omega (arith, g .few)
+
+  pub data-behind : Fits w64 (word + row-words)
+  data-behind = record { fits = omega (arith, g .few) }
 
   pdus : Each-at (words 1) (pdu (8 - left) (flow 8 left)) s at (numbers 1 s at) (record { at = at + 4; steps = 1 })
   unfolding opened flows
@@ -260,29 +251,30 @@ module _ (left : ℕ) (s l : List ℕ) (at : ℕ) (pen : Pen) (g : Ready s l pen
   unfolding opened flows last-number
   same-ranges = pdus .ranges
 
-  module _ {n : ℕ} (v : n ≡ be4 s at) where
-    pub data-inner : Ready s l pen (times n (follow (pdu (8 - left) (flow 8 left))) s (from (at + 4)))
+  module _ {n me : ℕ} (v : n ≡ be4 s at) (u : me ≡ base + word / row-words) where
+    pub data-inner : Ready s l (a-pen base me (word + row-words)) (times n (follow (pdu (8 - left) (flow 8 left))) s (from (at + 4)))
     unfolding last-number
     data-inner =
         let k = ap size same-ranges in
         rw v (record { short = g .short; good = pdus .inner; room = omega (arith, g .room); few = omega (arith, g .few) })
 
-    pub data-filled : {a b : ℕ} {l′ : List ℕ} → a-put a b l′ ≡ placed pen (times n (follow (pdu (8 - left) (flow 8 left))) s (from (at + 4))) l
-        → filled b l′ ≡ fills pen (follow (opened (flows (pdu (8 - left) (flow 8 left))) 1016) s (from at)) l
+    pub data-filled : {a b : ℕ} {l′ : List ℕ} → a-put a b l′ ≡ placed (a-pen base me (word + row-words)) (times n (follow (pdu (8 - left) (flow 8 left))) s (from (at + 4))) l
+        → filled b l′ ≡ fills (held-by base word) (follow (opened (flows (pdu (8 - left) (flow 8 left))) 1016) s (from at)) l
     unfolding fills placed
-    data-filled e =
-        let a = next-is pen _ l e in
-        let b = store-is pen _ l e in
-        rw same-ranges (rw (← v) (λ h. record { next = a h; store = b h }))
+    data-filled {a} {b} {l′} e =
+        let f : a-put a b l′ ≡ placed (held-by base word) (times n (follow (pdu (8 - left) (flow 8 left))) s (from (at + 4))) l = rw u at e in
+        let x = word-is (held-by base word) _ l f in
+        let y = store-is (held-by base word) _ l f in
+        rw same-ranges (rw (← v) (λ h. record { word = x h; store = y h }))
 
 -- ---- a frame's own descriptor
 pub frame-put : (kind depth : ℕ) (s l : List ℕ) (at : ℕ) (pen : Pen) {n f p : ℕ} {l′ : List ℕ} → n ≡ be4 s (at + 4) → f ≡ be4 s at → p ≡ padded n
-    → l′ ≡ write l (row-words * pen .next) (row-of (pen .parent) (record { kind = kind; format = f; span = record { start = at + 8; count = n }; depth = depth; first = at })) → a-put (at + 8 + p) (pen .next + 1) l′ ≡ framed-at kind depth s at pen l
+    → l′ ≡ write l (pen .word) (row-of (pen .parent) (record { kind = kind; format = f; span = record { start = at + 8; count = n }; depth = depth; first = at })) → a-put (at + 8 + p) (pen .word + row-words) l′ ≡ framed-at kind depth s at pen l
 unfolding framed-at
 frame-put kind depth s l at pen {n} {f} {p} {l′} v u z q =
     let x : at + 8 + p ≡ at + 8 + padded (be4 s (at + 4)) = ap (λ (m : ℕ). at + 8 + m) (z ∙ ap padded v) in
-    let y : l′ ≡ write l (row-words * pen .next) (row-of (pen .parent) (frame-range kind depth s at)) = rw (v, u) at q in
-    λ h. record { at = x h; next = pen .next + 1; store = y h }
+    let y : l′ ≡ write l (pen .word) (row-of (pen .parent) (frame-range kind depth s at)) = rw (v, u) at q in
+    λ h. record { at = x h; word = pen .word + row-words; store = y h }
 
 -- ---- a frame: its format word, its opaque, and what that holds
 module _ (kind depth : ℕ) (body : ℕ → Script) (s l : List ℕ) (at : ℕ) (pen : Pen) (g : Ready s l pen (follow (framed kind depth body) s (from at))) where
@@ -311,11 +303,11 @@ module _ (kind depth : ℕ) (body : ℕ → Script) (s l : List ℕ) (at : ℕ) 
     unfolding framed-at
     own-at = ap (λ (x : Put). x .at) e
 
-    own-next : b ≡ pen .next + 1
+    pub own-word : b ≡ pen .word + row-words
     unfolding framed-at
-    own-next = ap (λ (x : Put). x .next) e
+    own-word = ap (λ (x : Put). x .word) e
 
-    own-store : l′ ≡ write l (row-words * pen .next) (row-of (pen .parent) (frame-range kind d s at))
+    own-store : l′ ≡ write l (pen .word) (row-of (pen .parent) (frame-range kind d s at))
     unfolding framed-at
     own-store = ap (λ (x : Put). x .store) e
 
@@ -323,40 +315,39 @@ module _ (kind depth : ℕ) (body : ℕ → Script) (s l : List ℕ) (at : ℕ) 
     frame-kept = ap length own-store ∙ write-length _ _ _
 
     module _ {f : ℕ} (u : f ≡ be4 s at) where
-      pub frame-inner : (parent : ℕ) → Ready s l′ (a-pen (pen .base) parent b) (follow (body f) s (from (at + 8)))
-      frame-inner parent =
+      pub frame-inner : Ready s l′ (held-by (pen .base) (pen .word)) (follow (body f) s (from (at + 8)))
+      frame-inner =
           let k = frame-size in
           let m = frame-kept in
-          let n = own-next in
           rw u (record { short = g .short; good = frame .inner; room = omega (arith, g .room); few = omega (arith, g .few) })
 
       -- and what it holds, with it as the parent
-      pub frame-placed : {m : ℕ} {l″ : List ℕ} → d ≡ depth → filled m l″ ≡ fills (a-pen (pen .base) (me pen) b) (follow (body f) s (from (at + 8))) l′
+      pub frame-placed : {m : ℕ} {l″ : List ℕ} → d ≡ depth → filled m l″ ≡ fills (held-by (pen .base) (pen .word)) (follow (body f) s (from (at + 8))) l′
           → a-put a m l″ ≡ placed pen (follow (framed kind depth body) s (from at)) l
       unfolding placed fills
       frame-placed {m} {l″} i j =
           let r : Range = frame-range kind depth s at in
           let o : Forest = ranges-of (follow (body (be4 s at)) s (from (at + 8))) in
-          let y : l′ ≡ write l (row-words * pen .next) (row-of (pen .parent) (frame-range kind depth s at)) = rw i at own-store in
-          let z : l″ ≡ write l′ (row-words * (pen .next + 1)) (rows (pen .base + (pen .next + 1)) (me pen) o) = rw (u, own-next) at (ap (λ (x : Filled). x .store) j) in
-          let n : m ≡ pen .next + 1 + size o = rw (u, own-next) at (ap (λ (x : Filled). x .next) j) in
+          let y : l′ ≡ write l (pen .word) (row-of (pen .parent) (frame-range kind depth s at)) = rw i at own-store in
+          let z : l″ ≡ write l′ (pen .word + row-words) (rows (index (held-by (pen .base) (pen .word))) (index pen) o) = rw u at (ap (λ (x : Filled). x .store) j) in
+          let n : m ≡ pen .word + row-words + row-words * size o = rw u at (ap (λ (x : Filled). x .word) j) in
           let x : a ≡ end-of (follow (framed kind depth body) s (from at)) = own-at ∙ sym (frame .end) in
-          let t : m ≡ pen .next + size (ranges-of (follow (framed kind depth body) s (from at))) = n ∙ rw frame-size (omega arith) in
-          let w : l″ ≡ write l (row-words * pen .next) (rows (pen .base + pen .next) (pen .parent) (ranges-of (follow (framed kind depth body) s (from at)))) =
-          own-first l (pen .base) (pen .parent) (pen .next) r o y z
-          ∙ ap (λ (x : Forest). write l (row-words * pen .next) (rows (pen .base + pen .next) (pen .parent) x)) (sym (frame .ranges)) in
-          λ h. record { at = x h; next = t h; store = w h }
+          let t : m ≡ pen .word + row-words * size (ranges-of (follow (framed kind depth body) s (from at))) = n ∙ rw frame-size (omega arith) in
+          let w : l″ ≡ write l (pen .word) (rows (index pen) (pen .parent) (ranges-of (follow (framed kind depth body) s (from at)))) =
+          own-first l (pen .base) (pen .parent) (pen .word) r o y z ∙ ap (λ (x : Forest). write l (pen .word) (rows (index pen) (pen .parent) x)) (sym (frame .ranges)) in
+          λ h. record { at = x h; word = t h; store = w h }
 
 -- where nothing is found nothing is written
-pub nothing-more : (o : Out Found) (pen : Pen) (l : List ℕ) → ranges-of o ≡ bare → filled (pen .next) l ≡ fills pen o l
+pub nothing-more : (o : Out Found) (pen : Pen) (l : List ℕ) → ranges-of o ≡ bare → filled (pen .word) l ≡ fills pen o l
 unfolding fills placed size rows
 nothing-more o pen l e = sym (rw (e, add-zero, write-none))
 
 -- a frame that holds nothing of its own
 pub frame-alone : (kind depth : ℕ) (body : ℕ → Script) (s l : List ℕ) (at : ℕ) (pen : Pen) (g : Ready s l pen (follow (framed kind depth body) s (from at))) (d : ℕ) {a b : ℕ} {l′ : List ℕ}
     (e : a-put a b l′ ≡ framed-at kind d s at pen l) → d ≡ depth → ranges-of (follow (body (be4 s at)) s (from (at + 8))) ≡ bare → a-put a b l′ ≡ placed pen (follow (framed kind depth body) s (from at)) l
-frame-alone kind depth body s l at pen g d {b = b} {l′ = l′} e i z =
-    frame-placed kind depth body s l at pen g d e refl i (nothing-more (follow (body (be4 s at)) s (from (at + 8))) (a-pen (pen .base) (me pen) b) l′ z)
+frame-alone kind depth body s l at pen g d {a} {b} {l′} e i z =
+    ap (λ (w : ℕ). a-put a w l′) (own-word kind depth body s l at pen g d e)
+    ∙ frame-placed kind depth body s l at pen g d e refl i (nothing-more (follow (body (be4 s at)) s (from (at + 8))) (held-by (pen .base) (pen .word)) l′ z)
 
 -- ---- a flow record: a frame, where a level is left
 module _ (left : ℕ) (s l : List ℕ) (at : ℕ) (pen : Pen) (g : Ready s l pen (follow (flow 8 left) s (from at))) where
@@ -394,10 +385,6 @@ module _ (left : ℕ) (s l : List ℕ) (at : ℕ) (pen : Pen) (g : Ready s l pen
   pub record-start : Fits w64 (at + 8)
   record-start = frame-start 2 (8 - (left - 1)) (holds (left - 1)) s l at pen ready
 
-  -- where it ends
-  pub record-ends : {a b : ℕ} {l′ : List ℕ} → a-put a b l′ ≡ placed pen (follow (flow 8 left) s (from at)) l → a ≤ length s
-  record-ends e = let k = at-is pen _ l e ∙ ap end-of is ∙ frame 2 (8 - (left - 1)) (holds (left - 1)) s l at pen ready .end in omega (arith, frame 2 (8 - (left - 1)) (holds (left - 1)) s l at pen ready .fits)
-
   -- its own descriptor was written
   module _ (d : ℕ) {a b : ℕ} {l′ : List ℕ} (q : d ≡ 9 - left) (e : a-put a b l′ ≡ framed-at 2 d s at pen l) {f : ℕ} (u : f ≡ be4 s at) where
     pub record-flat : (f ≡ 1016 → ⊥) → a-put a b l′ ≡ placed pen (follow (flow 8 left) s (from at)) l
@@ -405,10 +392,13 @@ module _ (left : ℕ) (s l : List ℕ) (at : ℕ) (pen : Pen) (g : Ready s l pen
         frame-alone 2 (8 - (left - 1)) (holds (left - 1)) s l at pen ready d e (q ∙ same-depth) (other-bare (pdu (8 - (left - 1)) (flow 8 (left - 1))) (be4 s at) s (from (at + 8)) (rw u at z))
         ∙ ap (λ (o : Out Found). placed pen o l) (sym is)
 
-    pub record-inner : f ≡ 1016 → (parent : ℕ) → Ready s l′ (a-pen (pen .base) parent b) (follow (opened (flows (pdu (8 - (left - 1)) (flow 8 (left - 1)))) 1016) s (from (at + 8)))
-    record-inner z parent = frame-inner 2 (8 - (left - 1)) (holds (left - 1)) s l at pen ready d e (sym z ∙ u) parent
+    pub record-kept : length l′ ≡ length l
+    record-kept = frame-kept 2 (8 - (left - 1)) (holds (left - 1)) s l at pen ready d e
 
-    pub record-placed : f ≡ 1016 → {m : ℕ} {l″ : List ℕ} → filled m l″ ≡ fills (a-pen (pen .base) (me pen) b) (follow (opened (flows (pdu (8 - (left - 1)) (flow 8 (left - 1)))) 1016) s (from (at + 8))) l′
+    pub record-inner : f ≡ 1016 → Ready s l′ (held-by (pen .base) (pen .word)) (follow (opened (flows (pdu (8 - (left - 1)) (flow 8 (left - 1)))) 1016) s (from (at + 8)))
+    record-inner z = frame-inner 2 (8 - (left - 1)) (holds (left - 1)) s l at pen ready d e (sym z ∙ u)
+
+    pub record-placed : f ≡ 1016 → {m : ℕ} {l″ : List ℕ} → filled m l″ ≡ fills (held-by (pen .base) (pen .word)) (follow (opened (flows (pdu (8 - (left - 1)) (flow 8 (left - 1)))) 1016) s (from (at + 8))) l′
         → a-put a m l″ ≡ placed pen (follow (flow 8 left) s (from at)) l
     record-placed z j = frame-placed 2 (8 - (left - 1)) (holds (left - 1)) s l at pen ready d e (sym z ∙ u) (q ∙ same-depth) j ∙ ap (λ (o : Out Found). placed pen o l) (sym is)
 
@@ -416,33 +406,19 @@ pub one-less : {left : ℕ} → left ≤ 8 → left - 1 ≤ 8
 one-less h = omega arith
 
 -- its format word, where it is the first of some
-pub flat-first : (left n : ℕ) (s l : List ℕ) (at base parent next : ℕ) → Ready s l (a-pen base parent next) (times n (follow (flow 8 left)) s (from at)) → 0 < n → at + 4 ≤ length s
-flat-first left n s l at base parent next g z = record-word left s l at (a-pen base parent next) (ready-first (flow 8 left) n s l at base parent next g z)
+pub flat-first : (left n : ℕ) (s l : List ℕ) (at base parent word : ℕ) → Ready s l (a-pen base parent word) (times n (follow (flow 8 left)) s (from at)) → 0 < n → at + 4 ≤ length s
+flat-first left n s l at base parent word g z = record-word left s l at (a-pen base parent word) (ready-first (flow 8 left) n s l at base parent word g z)
 
-pub flat-here : (left n : ℕ) (s l : List ℕ) (at base parent next : ℕ) → Ready s l (a-pen base parent next) (times n (follow (flow 8 left)) s (from at)) → 0 < n → Framed-here s l at (a-pen base parent next)
-flat-here left n s l at base parent next g z = record-here left s l at (a-pen base parent next) (ready-first (flow 8 left) n s l at base parent next g z)
+pub flat-here : (left n : ℕ) (s l : List ℕ) (at base parent word : ℕ) → Ready s l (a-pen base parent word) (times n (follow (flow 8 left)) s (from at)) → 0 < n → Framed-here s l at (a-pen base parent word)
+flat-here left n s l at base parent word g z = record-here left s l at (a-pen base parent word) (ready-first (flow 8 left) n s l at base parent word g z)
 
 -- ---- those in a row, up to an aggregation
 module _ {left : ℕ} {s l : List ℕ} {at n : ℕ} {pen : Pen} {r : Flat} {l′ : List ℕ} (h : Flat-of left s l at n pen r l′) where
-  pub flat-ready : Ready s l′ (a-pen (pen .base) (pen .parent) (r .next)) (times (r .rest) (follow (flow 8 left)) s (from (r .at)))
+  pub flat-ready : Ready s l′ (a-pen (pen .base) (pen .parent) (r .word)) (times (r .rest) (follow (flow 8 left)) s (from (r .at)))
   flat-ready = h .ready
 
   pub flat-length : length l′ ≡ length l
   unfolding placed
   flat-length = sym (write-length _ _ _) ∙ ap (λ (x : Put). length (x .store)) (h .same) ∙ write-length _ _ _
-
--- ---- the next byte and the descriptors in one number
-pub pack-fits : (s l : List ℕ) (pen : Pen) (o : Out Found) {at : ℕ} → Ready s l pen o → at ≤ length s → Fits w64 (at * 4294967296)
-pack-fits s l pen o g i = record { fits = omega (arith, g .short) }
-
-module _ (s l : List ℕ) (base parent next : ℕ) (o : Out Found) {at : ℕ} (g : Ready s l (a-pen base parent next) o) (i : at ≤ length s) where
-  pub pack-fits-too : Fits w64 (at * 4294967296 + next)
-  pack-fits-too = record { fits = omega (arith, g .short, g .few) }
-
-  pub pack-is : {u : Put} → a-put at next l ≡ u → packed (at * 4294967296 + next) l ≡ u
-  pack-is e =
-      let x : (at * 4294967296 + next) / 4294967296 ≡ at = omega (arith, g .few) in
-      let y : (at * 4294967296 + next) % 4294967296 ≡ next = omega (arith, g .few) in
-      rw (x, y) e
 
 pub ruleset flat = (kept-on, put-kept, ready-first, ready-next, put-turn, record-flat, flat-first, flat-here, needs)

@@ -33,6 +33,6 @@ pub record Ahead-of (s : List ℕ) (c : Cursor) (n k : ℕ) (r : Ahead) : Type 0
 
 -- to write on from here, into the store l′, is to write n records at `at` into l
 pub record Flat-of (left : ℕ) (s l : List ℕ) (at n : ℕ) (pen : Pen) (r : Flat) (l′ : List ℕ) : Type 0 where
-  pub ready : Ready s l′ (record { base = pen .base; parent = pen .parent; next = r .next }) (times (r .rest) (follow (flow 8 left)) s (from (r .at)))
-  pub same : placed (record { base = pen .base; parent = pen .parent; next = r .next }) (times (r .rest) (follow (flow 8 left)) s (from (r .at))) l′ ≡ placed pen (times n (follow (flow 8 left)) s (from at)) l
+  pub ready : Ready s l′ (record { base = pen .base; parent = pen .parent; word = r .word }) (times (r .rest) (follow (flow 8 left)) s (from (r .at)))
+  pub same : placed (record { base = pen .base; parent = pen .parent; word = r .word }) (times (r .rest) (follow (flow 8 left)) s (from (r .at))) l′ ≡ placed pen (times n (follow (flow 8 left)) s (from at)) l
   pub few : r .rest ≤ n

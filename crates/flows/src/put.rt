@@ -1,27 +1,28 @@
 // Flow records as descriptors: a second pass over what the first has accepted, which goes by frames alone.
 ghost use mathlib.Core.Path.{_≡_};
-ghost use Prim.Native.Nat.{_+_, _-_, _*_, _≤_};
+ghost use Prim.Native.Nat.{_+_, _-_, _/_, _^_, _≤_, _<_};
 ghost use lib.ListN.{length};
+ghost use Rattle.reading.specs.Bytes.{be4};
 ghost use Rattle.reading.specs.Cursor.{times, follow};
 ghost use Rattle.reading.specs.Layout.{opened, flows, flow, pdu};
 ghost use Rattle.reading.specs.Answer.{row-words, row-of, from};
 ghost use Rattle.reading.proofs.Stored.{write};
-ghost use Rattle.flows.specs.Written.{Ready, range-of, Framed-here, a-pen, written, packed, framed-at, placed, filled, fills};
+ghost use Rattle.flows.specs.Written.{Ready, range-of, Framed-here, held-by, written, framed-at, placed, filled, fills};
 ghost use Rattle.flows.specs.Passing.{Flat-of};
 use numbers::DataFormat;
 use xdr::load;
 
-// Where descriptors go: the index of this part's first, the parent's index, and how many of this part are written.
+// Where descriptors go: the index of this part's first, the parent's index, and the word of this part where the next one begins.
 pub struct Pen {
     pub base: u32,
     pub parent: u32,
-    pub next: usize,
+    pub word: usize,
 }
 
-// Where a pass has come to: the next byte, and how many descriptors of this part are written.
+// Where a pass has come to: the next byte, and the word where the next descriptor begins.
 pub struct Written {
     pub at: usize,
-    pub next: usize,
+    pub word: usize,
 }
 
 // A descriptor, word for word.
@@ -38,12 +39,19 @@ pub struct Descriptor {
 // The words of a descriptor in the store.
 pub const DESCRIPTOR_WORDS: usize = 7;
 
-// The one place that stores.
-pub fn put(store: &mut [u32], i: usize, d: Descriptor)
-    requires { ⌜ row-words * i + row-words ≤ length (now store) ⌝ }
-    ensures { λ r. ⌜ now (store .exit) ≡ write (now (store .entry)) (row-words * i) (row-of (d .parent) (range-of d)) ⌝ }
+// The index of the descriptor that begins at a word.
+pub fn index_at(base: u32, word: usize) -> u32
+    requires { ⌜ base + word / row-words < 2 ^ 32 ⌝ }
+    ensures { λ r. ⌜ r ≡ base + word / row-words ⌝ }
 {
-    let at = DESCRIPTOR_WORDS * i;
+    base + (word / DESCRIPTOR_WORDS) as u32
+}
+
+// The one place that stores.
+pub fn put(store: &mut [u32], at: usize, d: Descriptor)
+    requires { ⌜ at + row-words ≤ length (now store) ⌝ }
+    ensures { λ r. ⌜ now (store .exit) ≡ write (now (store .entry)) at (row-of (d .parent) (range-of d)) ⌝ }
+{
     store[at] = d.kind;
     store[at + 1] = d.format.0;
     store[at + 2] = d.start;
@@ -63,10 +71,10 @@ pub fn put_frame(s: &[u8], at: usize, kind: u32, depth: u32, store: &mut [u32], 
     let start = at + 8;
     let count = length as usize;
     let padded = load::padded(count);
-    let i = pen.next;
+    let word = pen.word;
     put(
         store,
-        i,
+        word,
         Descriptor {
             kind: kind,
             format: DataFormat(format),
@@ -79,14 +87,14 @@ pub fn put_frame(s: &[u8], at: usize, kind: u32, depth: u32, store: &mut [u32], 
     );
     Written {
         at: start + padded,
-        next: i + 1,
+        word: word + DESCRIPTOR_WORDS,
     }
 }
 
-// Where flat records end: the next byte, the descriptors written, and the records that are left.
+// Where flat records end: the next byte, the word where the next descriptor begins, and the records that are left.
 pub struct Flat {
     pub at: usize,
-    pub next: usize,
+    pub word: usize,
     pub rest: u32,
 }
 
@@ -102,18 +110,19 @@ pub fn put_flat_records(
     requires { ⌜ left ≤ 8 ⌝ }
     requires { ⌜ Ready (now s) (now store) pen (times n (follow (flow 8 left)) (now s) (from at)) ⌝ }
     ensures { λ r. ⌜ Flat-of left (now (s .entry)) (now (store .entry)) at n pen r (now (store .exit)) ⌝ }
+    ensures { λ r. ⌜ ((r .rest ≡ 0 → ⊥) → be4 (now (s .entry)) (r .at) ≡ 1016) ⌝ }
 {
     let base = pen.base;
     let parent = pen.parent;
     let depth = (9 - left) as u32;
     let mut cur = at;
-    let mut next = pen.next;
+    let mut word = pen.word;
     let mut rest = n;
     while 0 < rest {
         if load::be32(s, cur) == 1016 {
             return Flat {
                 at: cur,
-                next: next,
+                word: word,
                 rest: rest,
             };
         }
@@ -126,42 +135,37 @@ pub fn put_flat_records(
             Pen {
                 base: base,
                 parent: parent,
-                next: next,
+                word: word,
             },
         );
         cur = w.at;
-        next = w.next;
+        word = w.word;
         rest = rest - 1;
     }
     Flat {
         at: cur,
-        next: next,
+        word: word,
         rest: rest,
     }
 }
 
-// In one number, the next byte stands above this, and the descriptors written below it.
-pub const ABOVE: usize = 4294967296;
-
-// n flow records in a row. The next byte and the descriptors written come back in one number, since a call hands that back in a register:
-// levels nest, and each waits for the one inside it.
-pub fn put_flow_records(
+// n flow records in a row.
+fn put_flow_records(
     s: &[u8],
     at: usize,
     n: u32,
     left: usize,
     store: &mut [u32],
-    base: u32,
-    parent: u32,
-    next: usize,
-) -> usize
+    pen: Pen,
+) -> Written
     requires { ⌜ left ≤ 8 ⌝ }
-    requires { ⌜ at ≤ length (now s) ⌝ }
-    requires { ⌜ Ready (now s) (now store) (a-pen base parent next) (times n (follow (flow 8 left)) (now s) (from at)) ⌝ }
-    ensures { λ r. ⌜ packed r (now (store .exit)) ≡ placed (a-pen base parent next) (times n (follow (flow 8 left)) (now (s .entry)) (from at)) (now (store .entry)) ⌝ }
+    requires { ⌜ Ready (now s) (now store) pen (times n (follow (flow 8 left)) (now s) (from at)) ⌝ }
+    ensures { λ r. ⌜ written r (now (store .exit)) ≡ placed pen (times n (follow (flow 8 left)) (now (s .entry)) (from at)) (now (store .entry)) ⌝ }
 {
+    let base = pen.base;
+    let parent = pen.parent;
     let mut cur = at;
-    let mut to = next;
+    let mut word = pen.word;
     let mut rest = n;
     while 0 < rest {
         let w = put_flow_record(
@@ -172,14 +176,17 @@ pub fn put_flow_records(
             Pen {
                 base: base,
                 parent: parent,
-                next: to,
+                word: word,
             },
         );
         cur = w.at;
-        to = w.next;
+        word = w.word;
         rest = rest - 1;
     }
-    cur * ABOVE + to
+    Written {
+        at: cur,
+        word: word,
+    }
 }
 
 // One flow record: its own descriptor, and, where it is an aggregation, its PDUs behind that.
@@ -189,43 +196,55 @@ fn put_flow_record(s: &[u8], at: usize, left: usize, store: &mut [u32], pen: Pen
     ensures { λ r. ⌜ written r (now (store .exit)) ≡ placed pen (follow (flow 8 left) (now (s .entry)) (from at)) (now (store .entry)) ⌝ }
 {
     let depth = (9 - left) as u32;
-    if load::be32(s, at) != 1016 {
-        return put_frame(s, at, 2, depth, store, pen);
-    }
+    let format = load::be32(s, at);
     let base = pen.base;
-    let me = base + pen.next as u32;
+    let word = pen.word;
     let own = put_frame(s, at, 2, depth, &mut *store, pen);
+    if format != 1016 {
+        return own;
+    }
     Written {
         at: own.at,
-        next: put_pdus(s, at + 8, left - 1, store, base, me, own.next),
+        word: put_pdus(s, at + 8, left - 1, store, base, word),
     }
 }
 
-// What an aggregation holds, a PDU count and its PDUs; how many descriptors are then written. The records of a PDU come first, then its own
-// descriptor before them, whose length they give.
-fn put_pdus(
+// What the aggregation holds whose own descriptor is at a word, a PDU count and its PDUs; the word where the next descriptor begins. The records
+// of a PDU come first, then its own descriptor before them, whose length they give. Only this calls deeper, and all that it is handed and hands
+// back are numbers: those go by registers.
+pub fn put_pdus(
     s: &[u8],
     at: usize,
     left: usize,
     store: &mut [u32],
     base: u32,
-    parent: u32,
-    next: usize,
+    word: usize,
 ) -> usize
     requires { ⌜ left ≤ 8 ⌝ }
     requires { ⌜ at ≤ length (now s) ⌝ }
-    requires { ⌜ Ready (now s) (now store) (a-pen base parent next) (follow (opened (flows (pdu (8 - left) (flow 8 left))) 1016) (now s) (from at)) ⌝ }
-    ensures { λ r. ⌜ filled r (now (store .exit)) ≡ fills (a-pen base parent next) (follow (opened (flows (pdu (8 - left) (flow 8 left))) 1016) (now (s .entry)) (from at)) (now (store .entry)) ⌝ }
+    requires { ⌜ Ready (now s) (now store) (held-by base word) (follow (opened (flows (pdu (8 - left) (flow 8 left))) 1016) (now s) (from at)) ⌝ }
+    ensures { λ r. ⌜ filled r (now (store .exit)) ≡ fills (held-by base word) (follow (opened (flows (pdu (8 - left) (flow 8 left))) 1016) (now (s .entry)) (from at)) (now (store .entry)) ⌝ }
 {
+    let parent = index_at(base, word);
     let mut cur = at + 4;
-    let mut to = next;
+    let mut to = word + DESCRIPTOR_WORDS;
     let mut rest = load::be32(s, at);
     while 0 < rest {
         let n = load::be32(s, cur);
         let start = cur + 4;
-        let me = base + to as u32;
-        let w = put_flow_records(s, start, n, left, &mut *store, base, me, to + 1);
-        let end = w / ABOVE;
+        let w = put_flow_records(
+            s,
+            start,
+            n,
+            left,
+            &mut *store,
+            Pen {
+                base: base,
+                parent: index_at(base, to),
+                word: to + DESCRIPTOR_WORDS,
+            },
+        );
+        let end = w.at;
         put(
             &mut *store,
             to,
@@ -240,7 +259,7 @@ fn put_pdus(
             },
         );
         cur = end;
-        to = w % ABOVE;
+        to = w.word;
         rest = rest - 1;
     }
     to

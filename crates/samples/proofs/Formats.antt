@@ -1,5 +1,5 @@
 -- A sample's kind by its format: the arm of a number is the table's row of that number, and a number of no row stays raw. Assumes nothing.
-use Prim.Native.Nat.{ℕ, _≤_}
+use Prim.Native.Nat.{ℕ, _≤_, _<_}
 use mathlib.Core.Path.{_≡_, sym, ap, _∙_}
 use mathlib.Core.Bool.{true}
 use borrow.Author.Tests.{leb-true, ne-eqb}
@@ -21,3 +21,10 @@ raw-kind {f} a b d e g = record {
   few = omega arith;
   eight = omega arith;
 }
+
+-- what is asked before, and what behind, three
+pub low-raw : {f : ℕ} → (f ≡ 1 → ⊥) → f < 3 → (f ≡ 2 → ⊥) → Is-kind kind.Raw f
+low-raw a h b = raw-kind a b (λ z. omega arith) (λ z. omega arith) (λ z. omega arith)
+
+pub high-raw : {f : ℕ} → (f ≡ 1 → ⊥) → 3 ≤ f → (f ≡ 3 → ⊥) → (f ≡ 4 → ⊥) → (f ≡ 5 → ⊥) → Is-kind kind.Raw f
+high-raw a h d e g = raw-kind a (λ z. omega arith) d e g

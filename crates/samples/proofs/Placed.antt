@@ -8,46 +8,46 @@ use lib.ListN.{length}
 use Rattle.reading.specs.Bytes.{be4}
 use Rattle.reading.specs.Script.{Found, Script}
 use Rattle.reading.specs.Cursor.{Out, times, follow}
-use Rattle.reading.specs.Layout.{words, last-number, opened, flow, counter, samples}
+use Rattle.reading.specs.Layout.{words, last-number, opened, flows, pdu, flow, counter, samples, sample}
 use Rattle.reading.specs.Answer.{size, from}
 use Rattle.reading.proofs.Words.{numbers, row-got}
 use Rattle.reading.proofs.Places.{Accepted, ranges-of, Each-at, each-lies, words-lie}
 use Rattle.flows.specs.declared.put.Pen.{Pen}
 use Rattle.flows.specs.declared.put.Flat.{Flat}
-use Rattle.flows.specs.Written.{Ready, Put, Framed-here, a-pen, framed-at, placed, filled, fills}
+use Rattle.flows.specs.Written.{index, Ready, Put, Framed-here, a-pen, held-by, framed-at, placed, filled, fills}
 use Rattle.flows.specs.Passing.{Flat-of}
 use Rattle.flows.proofs.Placing as placing
-use Rattle.flows.proofs.Placing.{a-put, next-is, store-is}
+use Rattle.flows.proofs.Placing.{a-put, word-is, store-is}
 use Rattle.samples.specs.declared.fields.Kind.{Kind}
 use Rattle.samples.specs.declared.fields.Kind.the-variants as kind
 use Rattle.samples.specs.Held.{counted-by-last, held, words-of, Is-kind}
 use Rattle.samples.proofs.Sampling.{flows-words, counters-words, last-of}
 
 -- ---- a counter record, which holds nothing of its own
-module _ (s l : List ℕ) (at base parent next n : ℕ) (g : Ready s l (a-pen base parent next) (times n (follow counter) s (from at))) (z : 0 < n) where
-  first : Ready s l (a-pen base parent next) (follow counter s (from at))
-  first = placing.ready-first counter n s l at base parent next g z
+module _ (s l : List ℕ) (at base parent word n : ℕ) (g : Ready s l (a-pen base parent word) (times n (follow counter) s (from at))) (z : 0 < n) where
+  first : Ready s l (a-pen base parent word) (follow counter s (from at))
+  first = placing.ready-first counter n s l at base parent word g z
 
-  pub counter-here : Framed-here s l at (a-pen base parent next)
-  counter-here = placing.frame-here 3 1 (opened []) s l at (a-pen base parent next) first
+  pub counter-here : Framed-here s l at (a-pen base parent word)
+  counter-here = placing.frame-here 3 1 (opened []) s l at (a-pen base parent word) first
 
-  module _ {a b : ℕ} {l′ : List ℕ} (e : a-put a b l′ ≡ framed-at 3 1 s at (a-pen base parent next) l) where
-    counter-placed : a-put a b l′ ≡ placed (a-pen base parent next) (follow counter s (from at)) l
+  module _ {a b : ℕ} {l′ : List ℕ} (e : a-put a b l′ ≡ framed-at 3 1 s at (a-pen base parent word) l) where
+    counter-placed : a-put a b l′ ≡ placed (a-pen base parent word) (follow counter s (from at)) l
     unfolding opened follow ranges-of
-    counter-placed = placing.frame-alone 3 1 (opened []) s l at (a-pen base parent next) first 1 e refl refl
+    counter-placed = placing.frame-alone 3 1 (opened []) s l at (a-pen base parent word) first 1 e refl refl
 
-    pub counter-turn : {m : ℕ} {u : Put} → length l ≡ m → placed (a-pen base parent next) (times n (follow counter) s (from at)) l ≡ u
+    pub counter-turn : {m : ℕ} {u : Put} → length l ≡ m → placed (a-pen base parent word) (times n (follow counter) s (from at)) l ≡ u
         → (length l′ ≡ m) × Ready s l′ (a-pen base parent b) (times (n - 1) (follow counter) s (from a)) × (placed (a-pen base parent b) (times (n - 1) (follow counter) s (from a)) l′ ≡ u)
     counter-turn k h = (
-      placing.kept-on (a-pen base parent next) _ l _ counter-placed k,
-      placing.ready-next counter n s l at base parent next counter-placed g z,
-      placing.put-turn counter n s l at base parent next counter-placed g z h,
+      placing.kept-on (a-pen base parent word) _ l _ counter-placed k,
+      placing.ready-next counter n s l at base parent word counter-placed g z,
+      placing.put-turn counter n s l at base parent word counter-placed g z h,
     )
 
 -- what was placed, without the position
 pub placed-fills : {a b : ℕ} {l′ : List ℕ} (pen : Pen) (o : Out Found) (l : List ℕ) → a-put a b l′ ≡ placed pen o l → filled b l′ ≡ fills pen o l
 unfolding fills placed
-placed-fills pen o l e = let a = next-is pen o l e in let b = store-is pen o l e in λ h. record { next = a h; store = b h }
+placed-fills pen o l e = let a = word-is pen o l e in let b = store-is pen o l e in λ h. record { word = a h; store = b h }
 
 -- ---- a sample whose n words are followed by as many of `body` as the last of them says
 pub held-flows : {r : Kind} {f n : ℕ} → Is-kind r f → r ≡ kind.Flows n → opened (samples 8) f ≡ counted-by-last n (flow 8 8)
@@ -97,25 +97,54 @@ module _ (body : Script) (n : ℕ) (s l : List ℕ) (at : ℕ) (pen : Pen) (f : 
 
 pub ruleset arms = (held-flows, held-counters, flows-words, counters-words, kind-some, placed-fills, needs)
 
-pub raw-filled : {r : Kind} (f : ℕ) (s l : List ℕ) (at : ℕ) (pen : Pen) → Is-kind r f → r ≡ kind.Raw → filled (pen .next) l ≡ fills pen (follow (opened (samples 8) f) s (from at)) l
+pub raw-filled : {r : Kind} (f : ℕ) (s l : List ℕ) (at : ℕ) (pen : Pen) → Is-kind r f → r ≡ kind.Raw → filled (pen .word) l ≡ fills pen (follow (opened (samples 8) f) s (from at)) l
 unfolding follow ranges-of
 raw-filled f s l at pen q e = placing.nothing-more (follow (opened (samples 8) f) s (from at)) pen l (ap (λ (x : Script). ranges-of (follow x s (from at))) (q .is ∙ ap held e))
 
--- ---- the flow records of a sample: the flat ones, and the others
+-- ---- the flow records of a sample: the flat ones, and the aggregation that they end at
 module _ {s l : List ℕ} {at n : ℕ} {pen : Pen} {r : Flat} {l′ : List ℕ} (h : Flat-of 8 s l at n pen r l′) where
-  pub flat-done : r .rest ≡ 0 → filled (r .next) l′ ≡ fills pen (times n (follow (flow 8 8)) s (from at)) l
-  flat-done z =
-      placed-fills {a = r .at} {b = r .next} pen (times n (follow (flow 8 8)) s (from at)) l
-      (placing.put-done (flow 8 8) (r .rest) s l′ (r .at) (pen .base) (pen .parent) (r .next) (h .same) (omega arith))
+  pub flat-done : (to : Pen) (o : Out Found) (w : List ℕ) → r .rest ≡ 0 → placed pen (times n (follow (flow 8 8)) s (from at)) l ≡ placed to o w → filled (r .word) l′ ≡ fills to o w
+  flat-done to o w z k = placed-fills {a = r .at} {b = r .word} to o w (placing.put-done (flow 8 8) (r .rest) s l′ (r .at) (pen .base) (pen .parent) (r .word) (h .same) (omega arith) ∙ k)
 
-  pub flat-more : {a b : ℕ} {l″ : List ℕ} → a-put a b l″ ≡ placed (a-pen (pen .base) (pen .parent) (r .next)) (times (r .rest) (follow (flow 8 8)) s (from (r .at))) l′ → filled b l″ ≡ fills pen (times n (follow (flow 8 8)) s (from at)) l
-  flat-more e = placed-fills pen (times n (follow (flow 8 8)) s (from at)) l (e ∙ h .same)
+  pub flat-next : (r .rest ≡ 0 → ⊥) → Ready s l′ (a-pen (pen .base) (pen .parent) (r .word)) (follow (flow 8 8) s (from (r .at)))
+  flat-next z = placing.ready-first (flow 8 8) (r .rest) s l′ (r .at) (pen .base) (pen .parent) (r .word) (h .ready) (omega arith)
 
-  -- where there is a record it lies in the input
-  pub flat-inside : (r .rest ≡ 0 → ⊥) → r .at ≤ length s
-  flat-inside z = let k = placing.flat-first 8 (r .rest) s l′ (r .at) (pen .base) (pen .parent) (r .next) (h .ready) (omega arith) in omega arith
+  pub flat-less : (r .rest ≡ 0 → ⊥) → r .rest - 1 < n
+  flat-less z = omega (arith, h .few)
 
-pub ruleset flat = (placing.flat-ready, placing.flat-length, flat-done, flat-more, flat-inside, placing.kept-on, needs)
+  pub flat-turn : {a b k : ℕ} {l″ : List ℕ} {m : Put} → (r .rest ≡ 0 → ⊥) → length l ≡ k → placed pen (times n (follow (flow 8 8)) s (from at)) l ≡ m
+      → a-put a b l″ ≡ placed (a-pen (pen .base) (pen .parent) (r .word)) (follow (flow 8 8) s (from (r .at))) l′
+      → (length l″ ≡ k) × Ready s l″ (a-pen (pen .base) (pen .parent) b) (times (r .rest - 1) (follow (flow 8 8)) s (from a))
+      × (placed (a-pen (pen .base) (pen .parent) b) (times (r .rest - 1) (follow (flow 8 8)) s (from a)) l″ ≡ m)
+  flat-turn z k m e = (
+    placing.put-kept (a-pen (pen .base) (pen .parent) (r .word)) _ l′ e ∙ placing.flat-length h ∙ k,
+    placing.ready-next (flow 8 8) (r .rest) s l′ (r .at) (pen .base) (pen .parent) (r .word) e (h .ready) (omega arith),
+    placing.put-turn (flow 8 8) (r .rest) s l′ (r .at) (pen .base) (pen .parent) (r .word) e (h .ready) (omega arith) (h .same) ∙ m,
+  )
+
+-- ---- an aggregation among them: its own descriptor was written
+module _ (s l : List ℕ) (at : ℕ) (pen : Pen) (k : be4 s at ≡ 1016) (g : Ready s l pen (follow (flow 8 8) s (from at))) {a b : ℕ} {l′ : List ℕ} (e : a-put a b l′ ≡ framed-at 2 1 s at pen l) where
+  pub aggregation-kept : length l′ ≡ length l
+  aggregation-kept = placing.record-kept 8 s l at pen g 1 refl e (sym k)
+
+  pub aggregation-inner : Ready s l′ (held-by (pen .base) (pen .word)) (follow (opened (flows (pdu 1 (flow 8 7))) 1016) s (from (at + 8)))
+  aggregation-inner = placing.record-inner 8 s l at pen g 1 refl e (sym k) refl
+
+  pub aggregation-placed : {m : ℕ} {l″ : List ℕ} → filled m l″ ≡ fills (held-by (pen .base) (pen .word)) (follow (opened (flows (pdu 1 (flow 8 7))) 1016) s (from (at + 8))) l′
+      → a-put a m l″ ≡ placed pen (follow (flow 8 8) s (from at)) l
+  aggregation-placed j = placing.record-placed 8 s l at pen g 1 refl e (sym k) refl j
+
+pub ruleset held-records = (placing.record-here, placing.record-in, placing.record-start, aggregation-kept, aggregation-inner, aggregation-placed, needs)
+
+pub ruleset flat = (placing.flat-length, flat-done, flat-next, flat-less, flat-turn, placed-fills, needs)
+
+-- ---- a sample: its own descriptor was written, and what it holds has it for its parent
+module _ (s l : List ℕ) (at : ℕ) (pen : Pen) (g : Ready s l pen (follow (sample 8) s (from at))) {a b : ℕ} {l′ : List ℕ} (e : a-put a b l′ ≡ framed-at 1 0 s at pen l) {f me : ℕ} (u : f ≡ be4 s at) (v : me ≡ index pen) where
+  pub sample-inner : Ready s l′ (a-pen (pen .base) me b) (follow (opened (samples 8) f) s (from (at + 8)))
+  sample-inner = rw (v, placing.own-word 1 0 (opened (samples 8)) s l at pen g 0 e) (placing.frame-inner 1 0 (opened (samples 8)) s l at pen g 0 e u)
+
+  pub sample-placed : {m : ℕ} {l″ : List ℕ} → filled m l″ ≡ fills (a-pen (pen .base) me b) (follow (opened (samples 8) f) s (from (at + 8))) l′ → a-put a m l″ ≡ placed pen (follow (sample 8) s (from at)) l
+  sample-placed j = placing.frame-placed 1 0 (opened (samples 8)) s l at pen g 0 e u refl (rw (v, placing.own-word 1 0 (opened (samples 8)) s l at pen g 0 e) at j)
 
 pub ruleset writing = (
   placing.kept-on,
@@ -123,15 +152,14 @@ pub ruleset writing = (
   placing.ready-first,
   placing.ready-next,
   placing.put-turn,
-  placing.pen-next,
-  placing.pen-me,
+  placing.pen-index,
   placing.frame-here,
   placing.frame-word,
   placing.frame-in,
   placing.frame-start,
   placing.frame-kept,
-  placing.frame-inner,
-  placing.frame-placed,
+  sample-inner,
+  sample-placed,
   counter-here,
   counter-turn,
   needs,

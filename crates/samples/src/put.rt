@@ -2,18 +2,19 @@
 ghost use mathlib.Core.Path.{_≡_};
 ghost use Prim.Native.Nat.{_≤_};
 ghost use lib.ListN.{length};
+ghost use Rattle.reading.specs.Bytes.{be4};
 ghost use Rattle.reading.specs.Cursor.{times, follow};
 ghost use Rattle.reading.specs.Layout.{opened, flow, counter, samples, sample};
 ghost use Rattle.reading.specs.Answer.{from};
 ghost use Rattle.flows.specs.Written.{Ready, written, placed, filled, fills};
 use crate::fields::Kind;
 use crate::fields::kind_of;
-use flows::put::ABOVE;
 use flows::put::Pen;
 use flows::put::Written;
+use flows::put::index_at;
 use flows::put::put_flat_records;
-use flows::put::put_flow_records;
 use flows::put::put_frame;
+use flows::put::put_pdus;
 use xdr::load;
 
 // n counter records in a row.
@@ -24,7 +25,7 @@ fn put_counter_records(s: &[u8], at: usize, n: u32, store: &mut [u32], pen: Pen)
     let base = pen.base;
     let parent = pen.parent;
     let mut cur = at;
-    let mut next = pen.next;
+    let mut word = pen.word;
     let mut rest = n;
     while 0 < rest {
         let w = put_frame(
@@ -36,33 +37,66 @@ fn put_counter_records(s: &[u8], at: usize, n: u32, store: &mut [u32], pen: Pen)
             Pen {
                 base: base,
                 parent: parent,
-                next: next,
+                word: word,
             },
         );
         cur = w.at;
-        next = w.next;
+        word = w.word;
         rest = rest - 1;
     }
     Written {
         at: cur,
-        next: next,
+        word: word,
     }
 }
 
-// n flow records of a sample: the flat ones first, then, where there is an aggregation among them, the others.
+// An aggregation among the flow records of a sample: its own descriptor, and its PDUs behind that.
+fn put_aggregation(s: &[u8], at: usize, store: &mut [u32], pen: Pen) -> Written
+    requires { ⌜ be4 (now s) at ≡ 1016 ⌝ }
+    requires { ⌜ Ready (now s) (now store) pen (follow (flow 8 8) (now s) (from at)) ⌝ }
+    ensures { λ r. ⌜ written r (now (store .exit)) ≡ placed pen (follow (flow 8 8) (now (s .entry)) (from at)) (now (store .entry)) ⌝ }
+{
+    let base = pen.base;
+    let word = pen.word;
+    let own = put_frame(s, at, 2, 1, &mut *store, pen);
+    Written {
+        at: own.at,
+        // Lent anew, so that its two words go to the stack only where there is a call.
+        word: put_pdus(&*s, at + 8, 7, store, base, word),
+    }
+}
+
+// n flow records of a sample: flat ones in one loop, then an aggregation, where there is one, and so on.
 fn put_sample_flows(s: &[u8], at: usize, n: u32, store: &mut [u32], pen: Pen) -> usize
     requires { ⌜ Ready (now s) (now store) pen (times n (follow (flow 8 8)) (now s) (from at)) ⌝ }
     ensures { λ r. ⌜ filled r (now (store .exit)) ≡ fills pen (times n (follow (flow 8 8)) (now (s .entry)) (from at)) (now (store .entry)) ⌝ }
 {
     let base = pen.base;
     let parent = pen.parent;
-    let flat = put_flat_records(s, at, n, 8, &mut *store, pen);
-    let next = flat.next;
-    if flat.rest == 0 {
-        return next;
+    let mut cur = at;
+    let mut word = pen.word;
+    let mut rest = n;
+    while 0 < rest {
+        let to = Pen {
+            base: base,
+            parent: parent,
+            word: word,
+        };
+        let flat = put_flat_records(s, cur, rest, 8, &mut *store, to);
+        if flat.rest == 0 {
+            return flat.word;
+        }
+        let to = Pen {
+            base: base,
+            parent: parent,
+            word: flat.word,
+        };
+        let w = put_aggregation(s, flat.at, &mut *store, to);
+        cur = w.at;
+        word = w.word;
+        rest = flat.rest - 1;
     }
-    // Lent anew, so that its two words go to the stack only where there is a call.
-    put_flow_records(&*s, flat.at, flat.rest, 8, store, base, parent, next) % ABOVE
+    word
 }
 
 // What a sample of this format holds.
@@ -81,9 +115,9 @@ fn put_sample_data(s: &[u8], at: usize, format: u32, store: &mut [u32], pen: Pen
             let first = at + 4 * (k as usize);
             let n = load::be32(s, first - 4);
             let w = put_counter_records(s, first, n, store, pen);
-            w.next
+            w.word
         }
-        Kind::Raw => pen.next,
+        Kind::Raw => pen.word,
     }
 }
 
@@ -94,9 +128,9 @@ fn put_sample(s: &[u8], at: usize, store: &mut [u32], pen: Pen) -> Written
 {
     let format = load::be32(s, at);
     let base = pen.base;
-    let me = base + pen.next as u32;
+    let me = index_at(base, pen.word);
     let own = put_frame(s, at, 1, 0, &mut *store, pen);
-    let next = put_sample_data(
+    let word = put_sample_data(
         s,
         at + 8,
         format,
@@ -104,12 +138,12 @@ fn put_sample(s: &[u8], at: usize, store: &mut [u32], pen: Pen) -> Written
         Pen {
             base: base,
             parent: me,
-            next: own.next,
+            word: own.word,
         },
     );
     Written {
         at: own.at,
-        next: next,
+        word: word,
     }
 }
 
@@ -121,7 +155,7 @@ pub fn put_samples(s: &[u8], at: usize, n: u32, store: &mut [u32], pen: Pen) -> 
     let base = pen.base;
     let parent = pen.parent;
     let mut cur = at;
-    let mut next = pen.next;
+    let mut word = pen.word;
     let mut rest = n;
     while 0 < rest {
         let w = put_sample(
@@ -131,15 +165,15 @@ pub fn put_samples(s: &[u8], at: usize, n: u32, store: &mut [u32], pen: Pen) -> 
             Pen {
                 base: base,
                 parent: parent,
-                next: next,
+                word: word,
             },
         );
         cur = w.at;
-        next = w.next;
+        word = w.word;
         rest = rest - 1;
     }
     Written {
         at: cur,
-        next: next,
+        word: word,
     }
 }

@@ -11,12 +11,12 @@ use Rattle.datagram.proofs.run.put_run.Statement.{statement}
 use Rattle.datagram.proofs.run.put_run.Tie as tie
 
 abbrev Inv-loop : tie.InvT-loop
-Inv-loop s end store₀ cur₀ next₀ store cur next =
-    (cur ≤ length s) × (end ≡ end-of (run-from s (from cur))) × (length store ≡ length store₀) × Ready s store (pen-at next) (run-from s (from cur))
-    × (placed (pen-at next) (run-from s (from cur)) store ≡ placed (pen-at 0) (run-from s (from 0)) store₀)
+Inv-loop s end store₀ cur₀ word₀ store cur word =
+    (cur ≤ length s) × (end ≡ end-of (run-from s (from cur))) × (length store ≡ length store₀) × Ready s store (pen-at word) (run-from s (from cur))
+    × (placed (pen-at word) (run-from s (from cur)) store ≡ placed (pen-at 0) (run-from s (from 0)) store₀)
 
 abbrev μ-loop : tie.MeasureT-loop
-μ-loop s end store₀ cur₀ next₀ store cur next = end - cur
+μ-loop s end store₀ cur₀ word₀ store cur word = end - cur
 
 pub put-run-spec : {M : Type 1} → statement M
 put-run-spec =

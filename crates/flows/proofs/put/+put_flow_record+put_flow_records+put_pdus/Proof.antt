@@ -20,6 +20,7 @@ use Rattle.flows.proofs.put.+put_flow_record+put_flow_records+put_pdus.
 use Rattle.flows.proofs.put.put_pdus.Reads as put-pdus
 use Rattle.flows.proofs.put.put_pdus.Kinds as put-pdus-kinds
 use Rattle.flows.proofs.put.+put_flow_record+put_flow_records+put_pdus.Lts-put_pdus as put-pdus-lts
+use Rattle.flows.proofs.put.index_at.Reads as index-at-reads
 use Rattle.flows.proofs.put.put.Reads as put-reads
 use Rattle.flows.proofs.put.put_frame.Reads as put-frame-reads
 use Rattle.xdr.proofs.load.be32.Reads as be32-reads
@@ -75,20 +76,20 @@ put-pdus-below t =
     and 2 put-pdus-kinds.ps (falls 2 put-pdus-kinds.ps _<_ μ-put-pdus t) put-pdus.Pre
 
 abbrev put-flow-records-Inv-loop : put-flow-records-lts.InvT-loop
-put-flow-records-Inv-loop s at n left store₀ base parent next cur₀ to₀ rest₀ store cur to rest =
-    (cur ≤ length s) × (length store ≡ length store₀) × (Ready s store (a-pen base parent to) (times rest (follow (flow 8 left)) s (from cur)))
-    × (placed (a-pen base parent to) (times rest (follow (flow 8 left)) s (from cur)) store ≡ placed (a-pen base parent next) (times n (follow (flow 8 left)) s (from at)) store₀)
+put-flow-records-Inv-loop s at n left store₀ base parent cur₀ word₀ rest₀ store cur word rest =
+    (length store ≡ length store₀) × (Ready s store (a-pen base parent word) (times rest (follow (flow 8 left)) s (from cur)))
+    × (placed (a-pen base parent word) (times rest (follow (flow 8 left)) s (from cur)) store ≡ placed (a-pen base parent word₀) (times n (follow (flow 8 left)) s (from at)) store₀)
 
 abbrev put-flow-records-μ-loop : put-flow-records-lts.MeasureT-loop
-put-flow-records-μ-loop s at n left store₀ base parent next cur₀ to₀ rest₀ store cur to rest = rest
+put-flow-records-μ-loop s at n left store₀ base parent cur₀ word₀ rest₀ store cur word rest = rest
 
 abbrev put-pdus-Inv-loop : put-pdus-lts.InvT-loop
-put-pdus-Inv-loop s at left store₀ base parent next cur₀ to₀ rest₀ store cur to rest =
+put-pdus-Inv-loop s at left store₀ base word parent cur₀ to₀ rest₀ store cur to rest =
     (length store ≡ length store₀) × (Ready s store (a-pen base parent to) (times rest (follow (pdu (8 - left) (flow 8 left))) s (from cur)))
-    × (placed (a-pen base parent to) (times rest (follow (pdu (8 - left) (flow 8 left))) s (from cur)) store ≡ placed (a-pen base parent next) (times rest₀ (follow (pdu (8 - left) (flow 8 left))) s (from cur₀)) store₀)
+    × (placed (a-pen base parent to) (times rest (follow (pdu (8 - left) (flow 8 left))) s (from cur)) store ≡ placed (a-pen base parent to₀) (times rest₀ (follow (pdu (8 - left) (flow 8 left))) s (from cur₀)) store₀)
 
 abbrev put-pdus-μ-loop : put-pdus-lts.MeasureT-loop
-put-pdus-μ-loop s at left store₀ base parent next cur₀ to₀ rest₀ store cur to rest = rest
+put-pdus-μ-loop s at left store₀ base word parent cur₀ to₀ rest₀ store cur to rest = rest
 
 ruleset putting = (
   placing.kept-on,
@@ -96,15 +97,11 @@ ruleset putting = (
   placing.ready-first,
   placing.ready-next,
   placing.put-turn,
-  placing.pen-next,
-  placing.pen-me,
-  placing.pen-more,
+  placing.pen-index,
   placing.pdu-word,
   placing.pdu-start,
   placing.pdu-start32,
   placing.pdu-first32,
-  placing.pdu-next,
-  placing.pdu-me,
   placing.pdu-more,
   placing.pdu-inner,
   placing.pdu-forward,
@@ -114,6 +111,8 @@ ruleset putting = (
   placing.data-start,
   placing.data-inner,
   placing.data-filled,
+  placing.data-index,
+  placing.data-behind,
   placing.one-less,
   placing.record-falls,
   placing.record-some,
@@ -121,12 +120,10 @@ ruleset putting = (
   placing.record-word,
   placing.record-in,
   placing.record-start,
-  placing.record-ends,
+  placing.record-kept,
   placing.record-flat,
   placing.record-inner,
   placing.record-placed,
-  placing.pack-fits,
-  placing.pack-fits-too,
   needs,
 )
 
@@ -142,20 +139,17 @@ pub +put-flow-record+put-flow-records+put-pdus-spec : {M : Type 1} → statement
     )
     (put-flow-record-at t)
     put-flow-record.Post
-    (λ c. search putting)  -- put-flow-record-sub-depth put.rt:181:18
-    (λ c. search putting)  -- put-flow-record-cast-depth put.rt:181:17
-    (λ c κs. search putting)  -- put-flow-record-be32-requires put.rt:182:8
-    (λ c κs. search putting)  -- put-flow-record-put-frame-requires put.rt:183:9
-    (λ c. search putting)  -- put-flow-record-same-length put.rt:183:9
-    (λ c. search putting)  -- put-flow-record-returns put.rt:183:9
-    (λ c. search putting)  -- put-flow-record-cast-me put.rt:186:21
-    (λ c. search putting)  -- put-flow-record-add-me put.rt:186:14
-    (λ c κs. search putting)  -- put-flow-record-put-frame-requires-2 put.rt:187:9
-    (λ c. search putting)  -- put-flow-record-add-put-pdus put.rt:190:27
-    (λ c. search putting)  -- put-flow-record-sub-put-pdus put.rt:190:35
-    (λ c κs. (search putting, (search putting, (search putting, search putting))))  -- put-flow-record-put-pdus-requires put.rt:190:15
-    (λ c. search putting)  -- put-flow-record-same-length-2 put.rt:176:1
-    (λ c. search putting)  -- put-flow-record-returns-2 put.rt:176:1
+    (λ c. search putting)  -- put-flow-record-sub-depth
+    (λ c. search putting)  -- put-flow-record-cast-depth
+    (λ c κs. search putting)  -- put-flow-record-be32-requires
+    (λ c κs. search putting)  -- put-flow-record-put-frame-requires
+    (λ c. search putting)  -- put-flow-record-same-length
+    (λ c. search putting)  -- put-flow-record-returns
+    (λ c. search putting)  -- put-flow-record-add-put-pdus
+    (λ c. search putting)  -- put-flow-record-sub-put-pdus
+    (λ c κs. (search putting, (search putting, (search putting, search putting))))  -- put-flow-record-put-pdus-requires
+    (λ c. search putting)  -- put-flow-record-same-length-2
+    (λ c. search putting)  -- put-flow-record-returns-2
     )
     (λ t. put-flow-records-lts.spec
     (put-flow-record-below t, put-flow-record.Post)
@@ -163,17 +157,17 @@ pub +put-flow-record+put-flow-records+put-pdus-spec : {M : Type 1} → statement
     put-flow-records.Post
     put-flow-records-Inv-loop
     put-flow-records-μ-loop
-    (λ c. search putting)  -- put-flow-records-loop-holds put.rt:156:5
-    (λ c κs. search putting)  -- put-flow-records-put-flow-record-requires put.rt:157:13
-    (λ c. search putting)  -- put-flow-records-sub-rest put.rt:170:16
-    (λ c. search putting)  -- put-flow-records-loop-less put.rt:156:5
-    (λ c. search putting)  -- put-flow-records-loop-again put.rt:156:5
-    (λ c. search putting)  -- put-flow-records-mul-result put.rt:172:5
-    (λ c. search putting)  -- put-flow-records-add-result put.rt:172:5
-    (λ c. search putting)  -- put-flow-records-same-length put.rt:138:1
-    (λ c. placing.pack-is _ _ _ _ _ _ (c .before .loop .inv .2) (c .before .loop .inv .0) (placing.put-done _ _ _ _ _ _ _ _ (c .before .loop .inv .3) (c .loop-test .left)))  -- put-flow-records-returns put.rt:138:1
+    (λ c. search putting)  -- put-flow-records-loop-holds
+    (λ c κs. search putting)  -- put-flow-records-put-flow-record-requires
+    (λ c. search putting)  -- put-flow-records-sub-rest
+    (λ c. search putting)  -- put-flow-records-loop-less
+    (λ c. search putting)  -- put-flow-records-loop-again
+    (λ c. search putting)  -- put-flow-records-same-length
+    (λ c. placing.put-done _ _ _ _ _ _ _ _ (c .before .loop .inv .2) (c .loop-test .left))  -- put-flow-records-returns
     )
     λ t. put-pdus-lts.spec (
+      index-at-reads.Asked,
+      index-at-reads.Learnt,
       be32-reads.Asked,
       be32-reads.Learnt,
       put-flow-records-below t,
@@ -185,24 +179,36 @@ pub +put-flow-record+put-flow-records+put-pdus-spec : {M : Type 1} → statement
     put-pdus.Post
     put-pdus-Inv-loop
     put-pdus-μ-loop
-    (λ c. search putting)  -- put-pdus-add-cur put.rt:210:19
-    (λ c κs. search putting)  -- put-pdus-be32-requires put.rt:212:9
-    (λ c. search putting)  -- put-pdus-loop-holds put.rt:213:5
-    (λ c κs. search putting)  -- put-pdus-be32-requires-2 put.rt:214:13
-    (λ c. search putting)  -- put-pdus-add-start put.rt:215:21
-    (λ c. search putting)  -- put-pdus-cast-me put.rt:216:25
-    (λ c. search putting)  -- put-pdus-add-me put.rt:216:18
-    (λ c. search putting)  -- put-pdus-add-put-flow-records put.rt:217:76
-    (λ c κs. search putting)  -- put-pdus-put-flow-records-requires put.rt:217:13
-    (λ c. search putting)  -- put-pdus-cast-t17 put.rt:225:24
-    (λ c. search putting)  -- put-pdus-sub-t20 put.rt:226:26
-    (λ c. search putting)  -- put-pdus-cast-t25 put.rt:226:25
-    (λ c. search putting)  -- put-pdus-sub-t26 put.rt:228:25
-    (λ c. search putting)  -- put-pdus-cast-t27 put.rt:228:24
-    (λ c. search putting)  -- put-pdus-cast-t28
-    (λ c κs. placing.pdu-own _ _ _ _ _ _ _ _ (c .before .before .before .before .before .before .before .loop .inv .1) (c .before .before .before .before .before .before .loop-test .taken) (c .before .before .before .before .before .be322 .ensures) (c .before .before .before .put-flow-records .ensures))  -- put-pdus-put-requires put.rt:219:9
-    (λ c. search putting)  -- put-pdus-sub-rest put.rt:233:16
-    (λ c. search putting)  -- put-pdus-loop-less put.rt:213:5
-    (λ c. placing.pdu-turn _ _ _ _ _ _ _ _ (c .before .before .before .before .before .before .before .before .before .before .loop .inv .1) (c .before .before .before .before .before .before .before .before .before .loop-test .taken) (c .before .before .before .before .before .before .before .before .be322 .ensures) (c .before .before .before .before .before .before .put-flow-records .ensures) (c .before .before .put .ensures) (c .before .before .before .before .before .before .before .before .before .before .loop .inv .0) (c .before .before .before .before .before .before .before .before .before .before .loop .inv .2))  -- put-pdus-loop-again put.rt:213:5
-    (λ c. search putting)  -- put-pdus-same-length put.rt:196:1
-    (λ c. placing.data-filled _ _ _ _ _ (search putting) (search putting) (search putting) (placing.put-done _ _ _ _ _ _ _ _ (c .before .loop .inv .2) (c .loop-test .left)))  -- put-pdus-returns put.rt:196:1
+    (λ c κs. search putting)  -- put-pdus-index-at-requires
+    (λ c. search putting)  -- put-pdus-add-cur
+    (λ c. search putting)  -- put-pdus-add-to
+    (λ c κs. search putting)  -- put-pdus-be32-requires
+    (λ c. search putting)  -- put-pdus-loop-holds
+    (λ c κs. search putting)  -- put-pdus-be32-requires-2
+    (λ c. search putting)  -- put-pdus-add-start
+    (λ c κs. search putting)  -- put-pdus-index-at-requires-2
+    (λ c. search putting)  -- put-pdus-add
+    (λ c κs. search putting)  -- put-pdus-put-flow-records-requires
+    (λ c. search putting)  -- put-pdus-cast-start
+    (λ c. search putting)  -- put-pdus-sub-length
+    (λ c. search putting)  -- put-pdus-cast-length
+    (λ c. search putting)  -- put-pdus-sub-depth
+    (λ c. search putting)  -- put-pdus-cast-depth
+    (λ c. search putting)  -- put-pdus-cast-first
+    (λ c κs.
+    let p = c .before .before .before in
+    let i = p .before in
+    let n = i .before .before in
+    let w = n .before in
+    placing.pdu-own _ _ _ _ _ _ _ _ (w .before .loop .inv .1) (w .loop-test .taken) (n .be322 .ensures) (i .index-at2 .ensures) (p .put-flow-records .ensures))  -- put-pdus-put-requires
+    (λ c. search putting)  -- put-pdus-sub-rest
+    (λ c. search putting)  -- put-pdus-loop-less
+    (λ c.
+    let q = c .before .before in
+    let p = q .before .before .before .before in
+    let i = p .before in
+    let n = i .before .before in
+    let w = n .before in
+    placing.pdu-turn _ _ _ _ _ _ _ _ (w .before .loop .inv .1) (w .loop-test .taken) (n .be322 .ensures) (i .index-at2 .ensures) (p .put-flow-records .ensures) (q .put .ensures) (w .before .loop .inv .0) (w .before .loop .inv .2))  -- put-pdus-loop-again
+    (λ c. search putting)  -- put-pdus-same-length
+    (λ c. placing.data-filled _ _ _ _ _ _ (search putting) (search putting) (search putting) (search putting) (placing.put-done _ _ _ _ _ _ _ _ (c .before .loop .inv .2) (c .loop-test .left)))  -- put-pdus-returns

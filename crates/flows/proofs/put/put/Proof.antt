@@ -9,7 +9,6 @@ pub put-spec : {M : Type 1} → statement M
 put-spec =
     tie.close
     (tie.spec
-    (λ c. search needs)  -- mul-at put.rt:41:14
     (λ c. search needs)  -- mul-store put.rt:42:5
     (λ c. search needs)  -- slice-write-store put.rt:42:5
     (λ c. search needs)  -- add-store put.rt:43:11

@@ -10,12 +10,12 @@ use Rattle.flows.proofs.put.put_flat_records.Statement.{statement}
 use Rattle.flows.proofs.put.put_flat_records.Tie as tie
 
 abbrev Inv-loop : tie.InvT-loop
-Inv-loop s at n left store₀ base parent depth cur₀ next₀ rest₀ store cur next rest =
-    (rest ≤ n) × (depth ≡ 9 - left) × (length store ≡ length store₀) × (Ready s store (a-pen base parent next) (times rest (follow (flow 8 left)) s (from cur)))
-    × (placed (a-pen base parent next) (times rest (follow (flow 8 left)) s (from cur)) store ≡ placed (a-pen base parent next₀) (times n (follow (flow 8 left)) s (from at)) store₀)
+Inv-loop s at n left store₀ base parent depth cur₀ word₀ rest₀ store cur word rest =
+    (rest ≤ n) × (depth ≡ 9 - left) × (length store ≡ length store₀) × (Ready s store (a-pen base parent word) (times rest (follow (flow 8 left)) s (from cur)))
+    × (placed (a-pen base parent word) (times rest (follow (flow 8 left)) s (from cur)) store ≡ placed (a-pen base parent word₀) (times n (follow (flow 8 left)) s (from at)) store₀)
 
 abbrev μ-loop : tie.MeasureT-loop
-μ-loop s at n left store₀ base parent depth cur₀ next₀ rest₀ store cur next rest = rest
+μ-loop s at n left store₀ base parent depth cur₀ word₀ rest₀ store cur word rest = rest
 
 pub put-flat-records-spec : {M : Type 1} → statement M
 put-flat-records-spec =

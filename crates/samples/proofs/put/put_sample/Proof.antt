@@ -9,11 +9,10 @@ put-sample-spec =
     tie.close
     (tie.spec
     (λ c κs. search writing)  -- be32-requires put.rt:93:9
-    (λ c. search writing)  -- cast-me put.rt:95:21
-    (λ c. search writing)  -- add-me put.rt:95:14
+    (λ c κs. search writing)  -- index-at-requires
     (λ c κs. search (frames.frame-here 1 0 (opened (samples 8)), writing))  -- put-frame-requires put.rt:96:9
     (λ c. search writing)  -- add-put-sample-data put.rt:99:9
-    (λ c κs. search (frames.frame-inner 1 0 (opened (samples 8)), writing))  -- put-sample-data-requires put.rt:97:9
+    (λ c κs. search writing)  -- put-sample-data-requires put.rt:97:9
     (λ c. search (frames.frame-kept 1 0 (opened (samples 8)), writing))  -- same-length put.rt:89:1
-    (λ c. search (frames.frame-placed 1 0 (opened (samples 8)), writing))  -- returns put.rt:89:1
+    (λ c. search writing)  -- returns put.rt:89:1
     )

@@ -1,15 +1,46 @@
-use Rattle.samples.proofs.Placed.{flat}
+-- `samples::put::put_sample_flows` meets its contract. The loop's invariant: to write on is to write all. Assumes nothing.
+use mathlib.Core.Path.{_≡_}
+use lib.ListN.{length}
+use Rattle.reading.specs.Cursor.{times, follow}
+use Rattle.reading.specs.Layout.{flow}
+use Rattle.reading.specs.Answer.{from}
+use Rattle.flows.specs.Written as written
+use Rattle.flows.specs.Written.{Ready, a-pen}
+use Rattle.flows.proofs.Placing.{put-done}
+use Rattle.samples.proofs.Placed.{placed-fills, flat-next, flat-turn, flat}
 use Rattle.samples.proofs.put.put_sample_flows.Statement.{statement}
 use Rattle.samples.proofs.put.put_sample_flows.Tie as tie
+
+abbrev Inv-loop : tie.InvT-loop
+Inv-loop s at n store₀ base parent cur₀ word₀ rest₀ store cur word rest =
+    (length store ≡ length store₀) × (Ready s store (a-pen base parent word) (times rest (follow (flow 8 8)) s (from cur)))
+    × (written.placed (a-pen base parent word) (times rest (follow (flow 8 8)) s (from cur)) store ≡ written.placed (a-pen base parent word₀) (times n (follow (flow 8 8)) s (from at)) store₀)
+
+abbrev μ-loop : tie.MeasureT-loop
+μ-loop s at n store₀ base parent cur₀ word₀ rest₀ store cur word rest = rest
 
 pub put-sample-flows-spec : {M : Type 1} → statement M
 put-sample-flows-spec =
     tie.close
     (tie.spec
-    (λ c κs. search flat)  -- put-flat-records-requires put.rt:58:9
-    (λ c. search flat)  -- same-length put.rt:61:9
-    (λ c. search flat)  -- returns put.rt:61:9
-    (λ c κs. search flat)  -- put-flow-records-requires put.rt:63:5
-    (λ c. search flat)  -- same-length-2 put.rt:52:1
-    (λ c. search flat)  -- returns-2 put.rt:52:1
+    Inv-loop
+    μ-loop
+    (λ c. search flat)  -- loop-holds
+    (λ c κs. search flat)  -- put-flat-records-requires
+    (λ c. search flat)  -- same-length
+    (λ c. search flat)  -- returns
+    (λ c κs.
+    let n = c .before .if1 .left in
+    let f = c .before .before .before .before .before .put-flat-records .ensures in
+    (f .1 n, flat-next (f .0) n))  -- put-aggregation-requires
+    (λ c. search flat)  -- sub-rest
+    (λ c. search flat)  -- loop-less
+    (λ c.
+    let a = c .before .before .before in
+    let e = a .before .before in
+    let f = e .before .before .before .before in
+    let i = f .before .before .before .loop .inv in
+    flat-turn (f .put-flat-records .ensures .0) (e .if1 .left) (i .0) (i .2) (a .put-aggregation .ensures))  -- loop-again
+    (λ c. search flat)  -- same-length-2
+    (λ c. placed-fills _ _ _ (put-done _ _ _ _ _ _ _ _ (c .before .loop .inv .2) (c .loop-test .left)))  -- returns-2
     )

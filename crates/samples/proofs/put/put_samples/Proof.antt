@@ -11,12 +11,12 @@ use Rattle.samples.proofs.put.put_samples.Statement.{statement}
 use Rattle.samples.proofs.put.put_samples.Tie as tie
 
 abbrev Inv-loop : tie.InvT-loop
-Inv-loop s at n store₀ base parent cur₀ next₀ rest₀ store cur next rest =
-    (length store ≡ length store₀) × (Ready s store (a-pen base parent next) (times rest (follow (sample 8)) s (from cur)))
-    × (written.placed (a-pen base parent next) (times rest (follow (sample 8)) s (from cur)) store ≡ written.placed (a-pen base parent next₀) (times n (follow (sample 8)) s (from at)) store₀)
+Inv-loop s at n store₀ base parent cur₀ word₀ rest₀ store cur word rest =
+    (length store ≡ length store₀) × (Ready s store (a-pen base parent word) (times rest (follow (sample 8)) s (from cur)))
+    × (written.placed (a-pen base parent word) (times rest (follow (sample 8)) s (from cur)) store ≡ written.placed (a-pen base parent word₀) (times n (follow (sample 8)) s (from at)) store₀)
 
 abbrev μ-loop : tie.MeasureT-loop
-μ-loop s at n store₀ base parent cur₀ next₀ rest₀ store cur next rest = rest
+μ-loop s at n store₀ base parent cur₀ word₀ rest₀ store cur word rest = rest
 
 pub put-samples-spec : {M : Type 1} → statement M
 put-samples-spec =
