@@ -7,8 +7,7 @@ from statistics import median
 import making
 import workloads
 
-ROUNDS = 44  # in all places of the code together
-FEW, LONG = 12, 1 << 20  # for cases of more bytes than this
+ROUNDS = 80  # in all places of the code together
 CONTESTANTS = ("ours", "fields", "crate", "walk", "floor")
 CALLGRIND = ["valgrind", "--tool=callgrind", "--collect-atstart=no", "--callgrind-out-file=/dev/null"]
 
@@ -21,13 +20,8 @@ def ran(words, case):
     return done
 
 
-def rounds(programs, case, names):
-    """The rounds of every program, each with the nanoseconds for one unit of every contestant."""
-    count = (FEW if sum(map(len, case.inputs)) > LONG else ROUNDS) // len(programs)
-    return [one for program in programs for one in rounds_of(program, case, names, count)]
-
-
-def rounds_of(program, case, names, count):
+def rounds(program, case, names, count):
+    """So many rounds, each with the nanoseconds for one unit of every contestant."""
     lines = ran([program, str(count), *names], case).stdout.decode().split("\n")[:-1]
     found = [[float(word) for word in line.split()] for line in lines]
     if len(found) != count or any(len(one) != len(names) for one in found):
@@ -47,9 +41,9 @@ class Figures(dict):
         return median(a / b for a, b in zip(self.each[one], self.each[other]))
 
 
-def times(programs, case, names):
-    """In nanoseconds."""
-    return Figures(names, rounds(programs, case, names))
+def times(programs, case, names, count=ROUNDS):
+    """In nanoseconds; each program runs its part of the rounds."""
+    return Figures(names, [one for program in programs for one in rounds(program, case, names, count // len(programs))])
 
 
 def instructions(programs, case, name):

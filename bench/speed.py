@@ -16,25 +16,16 @@ SHOWN = (
 )
 
 
-def bytes_of(case):
-    return sum(map(len, case.inputs)) / case.units
+def in_time(what, small, big):
+    """16 MiB over 1 MiB: at most so much, or, where the walk grows by more than that too, which is the caches' doing, as much as the walk."""
+    ratio, beside = big["ours"] / small["ours"], big.over("ours", "walk") / small.over("ours", "walk")
+    said = f"{ratio:.2f}, at most {MOST_OF_SIXTEEN}, or {MOST_OF_WALK_GROWTH} times the walk's growth, of which it is {beside:.2f}"
+    return ratio <= MOST_OF_SIXTEEN or beside <= MOST_OF_WALK_GROWTH, f"target: 16 MiB over 1 MiB of {what} in time is {said}"
 
 
-def linear(cases, times, counts):
-    """The cost of 16 MiB against 1 MiB, whole and for a byte."""
-    size = {case.name: bytes_of(case) for case in cases}
-    for what, found, unit in (("time", times, "ns"), ("instructions", counts, "instructions")):
-        ratio = found["mib16"]["ours"] / found["mib1"]["ours"]
-        each = [found[name]["ours"] / size[name] for name in ("mib1", "mib16")]
-        said = f"target: mib16/mib1 in {what} is {ratio:.2f}, at most {MOST_OF_SIXTEEN} ({each[0]:.3f} and {each[1]:.3f} {unit} a byte)"
-        yield ratio <= MOST_OF_SIXTEEN, said
-
-
-def caches(growth):
-    """The growth of typical samples, which is the caches' where the walk's is as large: at most so much, or as much as the walk's."""
-    ratio = growth["ours"] / growth["walk"]
-    said = f"{growth['ours']:.2f}, at most {MOST_OF_SIXTEEN}, or at most {MOST_OF_WALK_GROWTH} times the walk's, of which it is {ratio:.3f}"
-    yield growth["ours"] <= MOST_OF_SIXTEEN or ratio <= MOST_OF_WALK_GROWTH, f"target: 16 MiB over 1 MiB of typical samples in time is {said}"
+def in_instructions(small, big):
+    ratio = big["ours"] / small["ours"]
+    return ratio <= MOST_OF_SIXTEEN, f"target: mib16/mib1 in instructions is {ratio:.2f}, at most {MOST_OF_SIXTEEN}"
 
 
 def refusals(endings):
@@ -52,8 +43,9 @@ def targets(cases, times, counts, texts, growth, endings):
     for case in cases:
         ratio = times[case.name].over("ours", "walk")
         yield ratio <= MOST_OF_WALK, f"target: ours/walk on {case.name} is {ratio:.2f}, at most {MOST_OF_WALK}"
-    yield from linear(cases, times, counts)
-    yield from caches(growth)
+    yield in_time("small records", times["mib1"], times["mib16"])
+    yield in_time("typical samples", *growth)
+    yield in_instructions(counts["mib1"], counts["mib16"])
     for name in workloads.TEXTS:
         ratio = texts[name].over("ours", "std")
         yield ratio <= MOST_OF_STD, f"target: ours/std on {name} is {ratio:.2f}, at most {MOST_OF_STD}"

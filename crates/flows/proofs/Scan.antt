@@ -123,7 +123,7 @@ module _ (s : List ℕ) (c : Cursor) {w : Word} (e : word-out w ≡ read-item wo
     frame-got g = framing-got s (place c) (rw h at e) (rw g at i)
 
 -- the same by one look at its two words
-module _ (s : List ℕ) (c : Cursor) {n p : ℕ} (v : n ≡ be4 s (c .at + 4)) (z : p ≡ padded n) (g : Inside s c) (h : 8 ≤ length s - c .at) where
+module _ (s : List ℕ) (c : Cursor) {n p : ℕ} (v : n ≡ be4 s (c .at + 4)) (z : p ≡ padded n) (g : Inside s c) (h : c .at + 8 ≤ length s) where
   first-word : {f : ℕ} → f ≡ be4 s (c .at) → got (number f) (place (behind 4 c)) ≡ read-item word s (place c)
   first-word u = word-got s c u refl g (omega arith)
 
@@ -133,11 +133,11 @@ module _ (s : List ℕ) (c : Cursor) {n p : ℕ} (v : n ≡ be4 s (c .at + 4)) (
   pub frame-long : {d : Cursor} {x : Outcome} → d ≡ behind 4 c → x ≡ refused 5 d → max-opaque < n → refusal x ≡ frame-at s (place c)
   frame-long y e l = rw (e, y) (framing-short s (place c) (first-word refl) (opaque-long s (place (behind 4 c)) second-word l))
 
-  module _ (k : length s - c .at - 8 < p) where
+  module _ (k : length s < c .at + 8 + p) where
     pub frame-over : {d : Cursor} {x : Outcome} → d ≡ behind 4 c → x ≡ refused 2 d → n ≤ max-opaque → refusal x ≡ frame-at s (place c)
     frame-over y e l = rw (e, y) (framing-short s (place c) (first-word refl) (opaque-short s (place (behind 4 c)) second-word l (omega arith)))
 
-  pub frame-there : {f : ℕ} → f ≡ be4 s (c .at) → p ≤ length s - c .at - 8 → length s ≤ 16777216
+  pub frame-there : {f : ℕ} → f ≡ be4 s (c .at) → c .at + 8 + p ≤ length s → length s ≤ 16777216
       → got (framing f (record { start = c .at + 8; count = n })) (place (record { at = c .at + 8 + p; steps = c .steps + 2 })) ≡ frame-at s (place c)
   frame-there u k l =
       let i = opaque-got s (place (behind 4 c)) second-word (omega arith) (omega arith) in

@@ -34,14 +34,14 @@ impl Frame {
     {
         let at = c.at;
         let steps = c.steps;
-        let room = s.len() - at;
-        if room < 8 {
+        let start = at + 8;
+        if s.len() < start {
             return Frame::by_items(c, s);
         }
         let length = load::be32(s, at + 4);
         let count = length as usize;
-        let padded = load::padded(count);
-        if room - 8 < padded {
+        let end = start + load::padded(count);
+        if s.len() < end {
             if MAX_OPAQUE_SIZE < length {
                 return Frame::Stop(c.past(4).refusal(5));
             }
@@ -51,11 +51,11 @@ impl Frame {
         Frame::Got(
             format,
             Span {
-                start: at + 8,
+                start: start,
                 count: count,
             },
             Cursor {
-                at: at + 8 + padded,
+                at: end,
                 steps: steps + 2,
             },
         )
