@@ -1,16 +1,17 @@
 -- The three demands, said of what the public calls answer: `decode` answers `one s w` to the input s and the store w, `decode_run` answers
 -- `run s w`. This is the file to open first: each theorem is one line, from the file that its heading names. Assumes nothing.
 use Prim.Native.Nat.{ℕ, _*_, _/_, _≤_, _<_}
-use mathlib.Core.Path.{_≡_}
+use mathlib.Core.Path.{_≡_, sym, subst}
 use mathlib.Core.Logic.{_↔_}
 use mathlib.Core.Bool.{true}
 use mathlib.Core.List.{List, _++_}
 use lib.ListN.{length, take, drop}
 use Rattle.reading.specs.Utf8.{utf8, Longest}
-use Rattle.reading.specs.Script.{Forest, Found}
+use Rattle.reading.specs.Numbers.{known}
+use Rattle.reading.specs.Script.{Value, Forest, Found}
 use Rattle.reading.specs.Grammar.{Is}
-use Rattle.reading.specs.Layout.{depth-limit, datagram-to, datagram}
-use Rattle.reading.specs.Answer.{limit, nobody, row-words, size, room, no-header, Answer, refused, one, run, read}
+use Rattle.reading.specs.Layout.{Field, depth-limit, datagram-to, datagram}
+use Rattle.reading.specs.Answer.{limit, nobody, row-words, size, room, no-header, Answer, refused, one, run, Fields, read}
 use Rattle.reading.proofs.Descriptors.{descriptor}
 use Rattle.demands.specs.Depths.{Shallow}
 use Rattle.demands.proofs.Limit.{no-deeper, same-reading}
@@ -19,18 +20,20 @@ use Rattle.demands.proofs.Accepted.{one-reading, accepted-reads, readin
 use Rattle.demands.proofs.Fielded.{All-fields}
 use Rattle.demands.proofs.AcceptedFields.{one-fields, run-all-fields}
 use Rattle.demands.specs.Stops.{Stops}
+use Rattle.demands.specs.Codes.{one-codes, run-codes, field-codes}
+use Rattle.demands.proofs.Codes.{one-coded, run-coded}
 use Rattle.demands.specs.Itemised.{Itemised}
 use Rattle.demands.proofs.Itemised.{one-itemised, fault-refused, one-fault, no-fault, room-last, eight-unseen}
 use Rattle.demands.specs.Tries.{Run, Run-stops}
 use Rattle.demands.specs.RunItemised.{Run-answers, Run-itemised, Run-accepted}
-use Rattle.demands.proofs.RunItemised.{run-itemised, run-accepts, run-answered, run-fits, run-refused, one-run, run-room-last}
+use Rattle.demands.proofs.RunItemised.{run-itemised, run-accepts, run-answered, run-fits, run-refused, one-run, one-run-fault, no-run-fault, run-room-last}
 use Rattle.demands.proofs.RunUnseen.{run-eight-unseen}
 use Rattle.demands.specs.Pads.{Same-but-pads}
 use Rattle.demands.proofs.Pads.{pads-free}
 use Rattle.demands.proofs.PadFields.{pads-free-fields}
 use Rattle.demands.specs.Nested.{end, last, Inside, Byte-of, row, all-of, whole-of}
-use Rattle.demands.specs.FieldsItemised.{Fields-itemised}
-use Rattle.demands.proofs.FieldsItemised.{fields-itemised}
+use Rattle.demands.specs.FieldsItemised.{Fields-reading, Fields-itemised, Fields-read}
+use Rattle.demands.proofs.FieldsItemised.{fields-itemised, itemised-only, fields-accepted, fields-coded, fields-quartered, one-fields-reading}
 use Rattle.demands.proofs.Calls.{Call, Public, kept, quartered, never-for-room, placed, too-long, whole-there}
 use Rattle.demands.proofs.Impostors.{Equals, p2, refuses-all, answers-p2, writes-nothing, own-steps, run-invents}
 use Rattle.demands.specs.Abnf.{UTF8-char, UTF8-octets}
@@ -141,6 +144,10 @@ module _ (s w : List ℕ) where
   pub steps-are-items : Itemised s w (one s w)
   steps-are-items = one-itemised s w
 
+  -- ---- the code is one of document 01's table (`Codes`)
+  pub code-is-listed : known one-codes (one s w .code) ≡ true
+  code-is-listed = one-coded s w
+
   -- ---- the first fault is answered; there is one, and none where there is a reading
   pub first-fault-answered : {c i n : ℕ} → length s ≤ limit → Stops datagram 0 s c i n → one s w ≡ refused c i n 0 w
   first-fault-answered = fault-refused s w
@@ -192,8 +199,19 @@ module _ (s w : List ℕ) where
   pub run-steps-are-items : Run-itemised s w (run s w)
   run-steps-are-items = run-itemised s w
 
+  -- ---- the code is one of document 01's table, and never 2 (`Codes`)
+  pub run-code-is-listed : known run-codes (run s w .code) ≡ true
+  run-code-is-listed = run-coded s w
+
+  -- ---- the first fault is answered; there is one, and none where there is a run
   pub run-first-fault-answered : {c i n : ℕ} → length s ≤ limit → Run-stops s 0 c i n → run s w ≡ refused c i n 0 w
   run-first-fault-answered = run-refused s w
+
+  pub run-first-fault-only : {c i n d j m : ℕ} → Run-stops s 0 c i n → Run-stops s 0 d j m → (c ≡ d) × (i ≡ j) × (n ≡ m)
+  run-first-fault-only = one-run-fault s w
+
+  pub fault-or-run : {c i n end m : ℕ} {g : Forest} → Run-stops s 0 c i n → Run s 0 g end m → ⊥
+  fault-or-run = no-run-fault s w
 
   pub run-no-room-last : run s w .code ≡ 9 → (g : Forest) × (end n : ℕ) × Run s 0 g end n × (room w < size g) × (run s w ≡ refused 9 0 n (size g) w)
   run-no-room-last = run-room-last s w
@@ -201,10 +219,29 @@ module _ (s w : List ℕ) where
   pub run-record-not-looked-at : (t : List ℕ) → run s w .code ≡ 8 → length t ≡ length s → take (run s w .at) t ≡ take (run s w .at) s → run t w ≡ run s w
   run-record-not-looked-at t = run-eight-unseen s t w
 
--- ==== field reading (`FieldsItemised`), of a descriptor of this kind, format and range that is asked for these fields: every answer is one of
--- five, too long, a range that passes the input, another kind or format, stopped after so many items, or read by the grammar, in one way only (`one-fields-reading`)
-pub fields-read-exactly : (ak af : ℕ) (s : List ℕ) (k f start extent : ℕ) → Fields-itemised ak af s k f start extent (read ak af s k f start extent)
-fields-read-exactly = fields-itemised
+-- ==== field reading (`FieldsItemised`), of a descriptor of this kind, format and range that is asked for the fields of another kind and format
+module _ (ak af : ℕ) (s : List ℕ) (k f start extent : ℕ) where
+  -- the answer is one of five, too long, a range that passes the input, another kind or format, stopped after so many items, or read by the grammar;
+  -- and no other answer is one of them
+  pub fields-read-exactly : (a : Fields) → (a ≡ read ak af s k f start extent) ↔ Fields-itemised ak af s k f start extent a
+  fields-read-exactly a = (λ e. subst (Fields-itemised ak af s k f start extent) (sym e) (fields-itemised ak af s k f start extent), itemised-only ak af s k f start extent)
+
+  -- code 0 exactly where the grammar reads the fields asked for, from the start of the range, held to it
+  pub fields-accepted-exactly : (read ak af s k f start extent .code ≡ 0) ↔ ((vs : List Value) × (bytes items : ℕ) × Fields-read ak af s k f start extent vs bytes items)
+  fields-accepted-exactly = fields-accepted ak af s k f start extent
+
+  -- the code is one of document 01's table, and never 8 or 9
+  pub fields-code-is-listed : known field-codes (read ak af s k f start extent .code) ≡ true
+  fields-code-is-listed = fields-coded ak af s k f start extent
+
+  -- four bytes of the range for each step, accepted or refused
+  pub fields-steps-bounded : 4 * read ak af s k f start extent .steps ≤ extent
+  fields-steps-bounded = fields-quartered ak af s k f start extent
+
+-- no bytes have two readings of a layout
+pub only-fields-reading : (l : List Field) (start : ℕ) (b : List ℕ) {vs us : List Value} {n m i j : ℕ} → Fields-reading l start b vs n i → Fields-reading l start b us m j
+    → (vs ≡ us) × (n ≡ m) × (i ≡ j)
+only-fields-reading = one-fields-reading
 
 -- ==== the grammar: it knows no limit of depth (`Limit`), and its strings are RFC 3629's (`Characters`, by `Abnf`)
 pub depth-is-the-limit : (o : ℕ) (b : List ℕ) (f : Found) (k : ℕ) → ((n : ℕ) × Is (datagram-to n) o b f k × Shallow depth-limit (f .ranges)) ↔ Is datagram o b f k

@@ -18,6 +18,7 @@ pub mod Itemised
 pub mod Tried
 pub mod RunItemised
 pub mod Unseen
+pub mod Codes
 pub mod FieldsItemised
 pub mod RunUnseen
 pub mod AcceptedFields

@@ -13,6 +13,7 @@ use Rattle.reading.specs.Script.{Forest, Found}
 use Rattle.reading.specs.Cursor.{Place, Out, got, stop}
 use Rattle.reading.specs.Layout.{only}
 use Rattle.reading.specs.Answer.{limit, from, size, room, no-header, Answer, refused, stored, datagrams, run}
+use Rattle.reading.proofs.Items.{never}
 use Rattle.reading.proofs.Stands.{place}
 use Rattle.reading.proofs.Runs.{run-from}
 use Rattle.demands.specs.RunItemised.{Run-answers, Run-accepted, Run-itemised, too-long, faulty, no-room, whole}
@@ -98,6 +99,13 @@ module _ (s w : List ℕ) where
       let x : only g ≡ only h = cc in
       let y : place end n ≡ place last m = cc in
       (ap (λ (f : Found). f .ranges) x, ap (λ (q : Place). q .at) y, ap (λ (q : Place). q .steps) y)
+
+  -- nor two faults, nor a fault and a run
+  pub one-run-fault : {c i n d j m : ℕ} → Run-stops s 0 c i n → Run-stops s 0 d j m → (c ≡ d) × (i ≡ j) × (n ≡ m)
+  one-run-fault {c} {i} {n} {d} {j} {m} t u = let e : _≡_ {A = Out Found} (stop c i n) (stop d j m) = sym (run-halt t) ∙ run-halt u in (cc, cc, cc)
+
+  pub no-run-fault : {c i n end m : ℕ} {g : Forest} → Run-stops s 0 c i n → Run s 0 g end m → ⊥
+  no-run-fault t u = never (sym (run-halt t) ∙ run-out u)
 
 -- ---- code 9 after all: only where there is a run by the grammar, for which the store has no room
 pub run-room-last : (s w : List ℕ) → run s w .code ≡ 9 → (g : Forest) × (end n : ℕ) × Run s 0 g end n × (room w < size g) × (run s w ≡ refused 9 0 n (size g) w)

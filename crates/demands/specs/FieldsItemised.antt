@@ -18,10 +18,17 @@ only-values vs = record { values = vs; ranges = bare }
 abbrev pub no-fields : List Field → (code at steps : ℕ) → Fields
 no-fields l c i n = record { code = c; at = i; steps = n; values = zeros l }
 
+-- a reading of layout l by the grammar, from `start` on: b begins with bytes that are the layout, and `rest` is left over
+pub record Fields-reading (l : List Field) (start : ℕ) (b : List ℕ) (vs : List Value) (bytes items : ℕ) : Type 0 where
+  pub read : List ℕ
+  pub rest : List ℕ
+  pub joined : b ≡ read ++ rest
+  pub long : length read ≡ bytes
+  pub is : Is (alone l) start read (only-values vs) items
+
 -- what the reading of layout l says that starts at `start`, with b as what encloses it
 pub data Held (l : List Field) (start : ℕ) (b : List ℕ) (a : Fields) : Type 0 where
-  read-whole : (vs : List Value) (items : ℕ) (bytes rest : List ℕ) → b ≡ bytes ++ rest → Is (alone l) start bytes (only-values vs) items
-      → a ≡ record { code = 0; at = start + length bytes; steps = items; values = vs } → Held l start b a
+  read-whole : (vs : List Value) (bytes items : ℕ) → Fields-reading l start b vs bytes items → a ≡ record { code = 0; at = start + bytes; steps = items; values = vs } → Held l start b a
   stopped-at : (c i n : ℕ) → Stops (alone l) start b c i n → a ≡ no-fields l c i n → Held l start b a
 
 -- what each answer says, to a descriptor of this kind, format and range, asked for the fields of another kind and format
@@ -30,3 +37,11 @@ pub data Fields-itemised (ak af : ℕ) (s : List ℕ) (k f start extent : ℕ) (
   passes : length s ≤ limit → length s < start + extent → a ≡ no-fields (layout-of ak af) 10 0 0 → Fields-itemised ak af s k f start extent a
   other : length s ≤ limit → start + extent ≤ length s → ((k ≡ ak) × (f ≡ af) → ⊥) → a ≡ no-fields (layout-of ak af) 11 0 0 → Fields-itemised ak af s k f start extent a
   held : length s ≤ limit → start + extent ≤ length s → k ≡ ak → f ≡ af → Held (layout-of ak af) start (take extent (drop start s)) a → Fields-itemised ak af s k f start extent a
+
+-- the fields asked for are read: s is not too long, the range is in it, the kind and the format are those asked for, and in the range there is a reading
+pub record Fields-read (ak af : ℕ) (s : List ℕ) (k f start extent : ℕ) (vs : List Value) (bytes items : ℕ) : Type 0 where
+  pub short : length s ≤ limit
+  pub lies : start + extent ≤ length s
+  pub kind : k ≡ ak
+  pub format : f ≡ af
+  pub reading : Fields-reading (layout-of ak af) start (take extent (drop start s)) vs bytes items

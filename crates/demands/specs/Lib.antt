@@ -8,3 +8,4 @@ pub mod RunItemised
 pub mod FieldsItemised
 pub mod Abnf
 pub mod Pads
+pub mod Codes
