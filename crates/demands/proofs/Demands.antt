@@ -1,8 +1,8 @@
 -- The three demands, said of what the public calls answer: `decode` answers `one s w` to the input s and the store w, `decode_run` answers
 -- `run s w`. This is the file to open first: each theorem is one line, from the file that its heading names. Assumes nothing.
-use Prim.Native.Nat.{ℕ, _*_, _/_, _≤_, _<_}
+use Prim.Native.Nat.{ℕ, _+_, _*_, _/_, _≤_, _<_}
 use mathlib.Core.Path.{_≡_, sym, subst}
-use mathlib.Core.Logic.{_↔_}
+use mathlib.Core.Logic.{_⊎_, _↔_}
 use mathlib.Core.Bool.{true}
 use mathlib.Core.List.{List, _++_}
 use lib.ListN.{length, take, drop}
@@ -31,7 +31,8 @@ use Rattle.demands.proofs.RunUnseen.{run-eight-unseen}
 use Rattle.demands.specs.Pads.{Same-but-pads}
 use Rattle.demands.proofs.Pads.{pads-free}
 use Rattle.demands.proofs.PadFields.{pads-free-fields}
-use Rattle.demands.specs.Nested.{end, last, Inside, Byte-of, row, all-of, whole-of}
+use Rattle.demands.specs.Nested.{end, last, Inside, Byte-of, row, all-of, whole-of, Under}
+use Rattle.demands.proofs.Placed.{together}
 use Rattle.demands.specs.FieldsItemised.{Fields-reading, Fields-itemised, Fields-read}
 use Rattle.demands.proofs.FieldsItemised.{fields-itemised, itemised-only, fields-accepted, fields-coded, fields-quartered, one-fields-reading}
 use Rattle.demands.proofs.Calls.{Call, Public, kept, quartered, never-for-room, placed, too-long, whole-there}
@@ -109,6 +110,18 @@ module _ {c : Call} (p : Public c) (s w : List ℕ) where
   pub sibling-after-sibling : c s w .code ≡ 0 → (i k : ℕ) → i < k → k < c s w .needed → row (c s w .store) i .parent ≡ row (c s w .store) k .parent
       → last (row (c s w .store) i .span) ≤ row (c s w .store) k .first
   sibling-after-sibling z = placed p s w z .siblings-apart
+
+  -- ---- demand 3, the order (`Placed`, `Ordered`): the descriptors are in order of first byte, a word apart at least, in a run too
+  pub in-order-of-first-byte : c s w .code ≡ 0 → (i k : ℕ) → i < k → k < c s w .needed → row (c s w .store) i .first + 4 ≤ row (c s w .store) k .first
+  in-order-of-first-byte z = placed p s w z .in-order
+
+  -- and depth first: of two, the second is under the first, or its first byte is at or after the end of the first's pad; and those between a descriptor
+  -- and one under it are under it too
+  pub under-or-behind : c s w .code ≡ 0 → (i k : ℕ) → i < k → k < c s w .needed → Under (c s w .store) i k ⊎ (last (row (c s w .store) i .span) ≤ row (c s w .store) k .first)
+  under-or-behind z = placed p s w z .under-or-behind
+
+  pub all-under-it-together : c s w .code ≡ 0 → (i j k : ℕ) → i < j → j < k → k < c s w .needed → Under (c s w .store) i k → Under (c s w .store) i j
+  all-under-it-together z = together (placed p s w z)
 
   -- ---- the first fault: code 1 comes before all
   pub too-long-first : limit < length s → c s w ≡ refused 1 0 0 0 w

@@ -3,6 +3,7 @@ pub mod Kept
 pub mod Aligned
 pub mod Nested
 pub mod Siblings
+pub mod Ordered
 pub mod Placed
 pub mod Depths
 pub mod Limit

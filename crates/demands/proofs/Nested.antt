@@ -13,7 +13,7 @@ use Rattle.reading.specs.Script.{Value, Range, Forest, _⊕_, Found, nothing, S
 use Rattle.reading.specs.Cursor.{Place, Out, got, stop, Reader, times, follow}
 use Rattle.reading.specs.Layout.{Field, fields, Row, _⟼_, _⟼_each_, last-number, opened, ranged, between, framed, pdu, flows, flow, counter, samples, sample, header, depth-limit, datagram-to, datagram}
 use Rattle.reading.specs.Answer.{tried, datagrams}
-use Rattle.demands.specs.Nested.{end, last, Level, top, inside, Kind-at, Led, Nested, none, next}
+use Rattle.demands.specs.Nested.{end, last, Level, top, inside, Kind-at, Led, inner-from, Nested, none, next}
 use Rattle.demands.proofs.Aligned.{Words, no-pad, and-then, Aligned, aligned-flow, aligned-sample, aligned-times, aligned-header}
 use Rattle.reading.proofs.Items.{never, split, either}
 use Rattle.reading.proofs.Stands.{place}
@@ -23,14 +23,18 @@ use Rattle.reading.proofs.Counts.{repeat-is}
 use Rattle.reading.proofs.Frames.{Frame, frame-read, span-length, Pdu, pdu-read}
 use Rattle.reading.proofs.Room.{whole, datagram-is, header-on}
 
--- a first byte is not behind its range's
+-- a first byte is not behind its range's, and what is inside begins a word after it
 pub led : (v : Level) (r : Range) → Led v r → r .first ≤ r .span .start
 led top r h = omega arith
 led inside r h = omega arith
 
+pub leads : (v : Level) (r : Range) → Led v r → (r .first + 4 ≤ inner-from v r) × (r .span .start ≤ inner-from v r)
+leads top r h = (omega arith, omega arith)
+leads inside r h = (omega arith, omega arith)
+
 pub forward : {v : Level} {lo hi : ℕ} {f : Forest} → Nested v lo hi f → lo ≤ hi
 forward (none h) = h
-forward (next {v = v} {r = r} k h l i j) = let a = forward i in let b = forward j in let c = led v r l in omega arith
+forward (next {v = v} {r = r} k h l i j) = let a = forward i in let b = forward j in let c = leads v r l in omega (arith, c .0)
 
 -- from further before
 pub sooner : {v : Level} {lo hi : ℕ} {f : Forest} (m : ℕ) → m ≤ lo → Nested v lo hi f → Nested v m hi f
@@ -121,11 +125,12 @@ orderly-framed kind depth body z o s p a q h e = go (frame-read kind depth body 
 
 -- from where it begins to where it ends, which is whole words, with its first byte at o
 spanned : {v : Level} {a e : ℕ} {f : Forest} (kind format depth o : ℕ) → Kind-at v kind → Led v (record { kind = kind; format = format; span = between a e; depth = depth; first = o }) → Words a e
-    → Nested inside a e f → Nested v o e (ranged kind format depth o (between a e) f)
-spanned {a = a} {e} kind format depth o k d w h =
+    → Nested inside (inner-from v (record { kind = kind; format = format; span = between a e; depth = depth; first = o })) e f → Nested v o e (ranged kind format depth o (between a e) f)
+spanned {v} {a} {e} kind format depth o k d w h =
     let l = forward h in
-    let x : last (between a e) ≤ e = omega (arith, no-pad w) in
-    next k (le-refl _) d (later (a + (e - a)) (omega arith) h) (none x)
+    let m = leads v (record { kind = kind; format = format; span = between a e; depth = depth; first = o }) d in
+    let x : last (between a e) ≤ e = omega (arith, no-pad w, m .1) in
+    next k (le-refl _) d (later (a + (e - a)) (omega (arith, m .1)) h) (none x)
 
 orderly-pdu : (depth : ℕ) (body : Script) → Aligned (follow body) → Orderly inside (follow body) → Orderly inside (follow (pdu depth body))
 orderly-pdu depth body w o s p a q h e = go (pdu-read depth body s p e)
@@ -165,7 +170,7 @@ datagram-nested limit s p a q h e =
     let i = header-on s p h (w .first) in
     let v = split (times (last-number (w .value)) (follow (sample limit)) s (w .place)) _ (w .second) in
     let k = and-then (aligned-header s p (w .value) (w .place) (w .first)) (aligned-times (sample limit) (aligned-sample limit) (last-number (w .value)) s (w .place) (v .value) (v .place) (v .first)) in
-    moved {a = whole (p .at) (w .value) (v .value) (v .place)} (v .second) (spanned 0 0 0 (p .at) refl refl k (sooner (p .at) (omega (arith, i .0)) (orderly-times (sample limit) (orderly-sample limit) (last-number (w .value)) s (w .place) (v .value) (v .place) (i .1) (v .first))))
+    moved {a = whole (p .at) (w .value) (v .value) (v .place)} (v .second) (spanned 0 0 0 (p .at) refl refl k (sooner (p .at + 4) (omega (arith, i .0)) (orderly-times (sample limit) (orderly-sample limit) (last-number (w .value)) s (w .place) (v .value) (v .place) (i .1) (v .first))))
 
 pub run-nested : (fuel : ℕ) → Orderly top (datagrams fuel)
 unfolding datagrams tried

@@ -1,6 +1,7 @@
 -- Demand 3, of the descriptors in the store: a descriptor's range lies inside its parent's with its pad, and of two with one parent the second's
 -- first byte is at or after the end of the first's pad. For one datagram, and for a run. Assumes nothing.
 use Prim.Native.Nat.{ℕ, zero, suc, _+_, _*_, _-_, _≤_, _<_}
+use mathlib.Core.Logic.{_⊎_, inl, inr}
 use mathlib.Core.Path.{_≡_, refl, sym, ap, _∙_, subst}
 use mathlib.Core.Bool.{Bool, true, false, cond}
 use mathlib.Core.List.{List, _++_, append-assoc}
@@ -20,9 +21,10 @@ use Rattle.reading.proofs.Descriptors.{entry, entry-past-one, entry-past}
 use Rattle.reading.proofs.Faults.{Sure, fault}
 use Rattle.reading.proofs.Codes.{sure-datagram, sure-run}
 use Rattle.demands.proofs.Quarter.{one-size, run-size}
-use Rattle.demands.specs.Nested.{top, Nested, Row, row, In-place}
+use Rattle.demands.specs.Nested.{end, last, top, Nested, Row, row, Under, child, deeper, In-place}
 use Rattle.demands.proofs.Nested.{later, datagram-nested, run-nested}
 use Rattle.demands.proofs.Siblings.{In, this, within, behind, Parent, own, before, parted, in-bounds, Outside, over, root-parent, root-first, root-kind, Held, parent-holds, siblings-apart}
+use Rattle.demands.proofs.Ordered.{in-order, Block, block}
 
 same : (v w : List ℕ) (i j : ℕ) → ((k : ℕ) → entry v i k ≡ entry w j k) → row v i ≡ row w j
 unfolding row
@@ -63,6 +65,29 @@ module _ (f : Forest) {lo hi : ℕ} (nested : Nested top lo hi f) (few : size f 
   held : (i : ℕ) → i < size f → (row (rows 0 nobody f ++ rest) i .kind ≡ 0 → ⊥) → Held (row (rows 0 nobody f ++ rest) i) (row (rows 0 nobody f ++ rest) (row (rows 0 nobody f ++ rest) i .parent))
   held i h z = let l = first i h z in parent-holds nested outside (listed i h) (listed (row (rows 0 nobody f ++ rest) i .parent) (omega arith)) refl
 
+  -- what is in its block is under it
+  under : {i : ℕ} (b : Block f 0 nobody i (row (rows 0 nobody f ++ rest) i)) (n k : ℕ) → k ≤ n → i < k → k ≤ i + b .count → Under (rows 0 nobody f ++ rest) i k
+  under b zero k q l h = absurd (omega arith)
+  under {i} b (suc n) k q l h =
+      let z = b .inner (listed k (omega (arith, b .fits))) l h in
+      let u : row (rows 0 nobody f ++ rest) k .kind ≡ 0 → ⊥ = λ e. omega (arith, z .0) in
+      let v = first k (omega (arith, b .fits)) u in
+      go u (z .1) (λ j. under b n (row (rows 0 nobody f ++ rest) k .parent) (omega arith) j (omega arith)) (leb (row (rows 0 nobody f ++ rest) k .parent) i) refl
+    where
+      go : (row (rows 0 nobody f ++ rest) k .kind ≡ 0 → ⊥) → i ≤ row (rows 0 nobody f ++ rest) k .parent
+          → (i < row (rows 0 nobody f ++ rest) k .parent → Under (rows 0 nobody f ++ rest) i (row (rows 0 nobody f ++ rest) k .parent))
+          → (t : Bool) → leb (row (rows 0 nobody f ++ rest) k .parent) i ≡ t → Under (rows 0 nobody f ++ rest) i k
+      go u v again true e = child u (omega (arith, leb-true))
+      go u v again false e = deeper u (again (leb-false _ i e))
+
+  either-way : (i k : ℕ) → i < k → k < size f → Block f 0 nobody i (row (rows 0 nobody f ++ rest) i)
+      → Under (rows 0 nobody f ++ rest) i k ⊎ (last (row (rows 0 nobody f ++ rest) i .span) ≤ row (rows 0 nobody f ++ rest) k .first)
+  either-way i k l h b = go (leb k (i + b .count)) refl
+    where
+      go : (t : Bool) → leb k (i + b .count) ≡ t → Under (rows 0 nobody f ++ rest) i k ⊎ (last (row (rows 0 nobody f ++ rest) i .span) ≤ row (rows 0 nobody f ++ rest) k .first)
+      go true e = inl (under b k k (omega arith) l (leb-true k (i + b .count) e))
+      go false e = inr (b .outer (listed k h) (leb-false k (i + b .count) e))
+
   pub rows-in-place : In-place (rows 0 nobody f ++ rest) (size f) hi
   rows-in-place =
       record {
@@ -75,7 +100,27 @@ module _ (f : Forest) {lo hi : ℕ} (nested : Nested top lo hi f) (few : size f 
         first-before = λ i h. in-bounds nested (listed i h) .1;
         all-there = λ i h. in-bounds nested (listed i h) .2;
         siblings-apart = λ i k l h z. siblings-apart nested outside (listed i (omega arith)) (listed k h) l z;
+        in-order = λ i k l h. in-order nested (listed i (omega arith)) (listed k h) l;
+        under-or-behind = λ i k l h. either-way i k l h (block nested (listed i (omega arith)));
       }
+
+-- what is under a descriptor begins and ends in its range; so the descriptors between the two are under it too
+module _ {w : List ℕ} {n size : ℕ} (p : In-place w n size) where
+  under-inside : {i k : ℕ} → Under w i k → k < n → (row w k .first < end (row w i .span)) × (last (row w k .span) ≤ end (row w i .span))
+  under-inside {k = k} (child u e) h = let a = p .first-inside k h u in let b = p .pad-inside k h u in (rw (← e) (a .1), rw (← e) b)
+  under-inside {k = k} (deeper u m) h =
+      let a = p .first-inside k h u in
+      let b = p .pad-inside k h u in
+      let c = p .parent-before k h u in
+      let z = under-inside m (omega arith) in
+      (omega (arith, a .1, z .1), omega (arith, b, z .1))
+
+  pub together : (i j k : ℕ) → i < j → j < k → k < n → Under w i k → Under w i j
+  together i j k l m h u = go (p .under-or-behind i j l (omega arith))
+    where
+      go : Under w i j ⊎ (last (row w i .span) ≤ row w j .first) → Under w i j
+      go (inl v) = v
+      go (inr v) = let a = under-inside u h in let b = p .in-order j k m h in absurd (omega (arith, a .0, b))
 
 -- ---- of an answer
 

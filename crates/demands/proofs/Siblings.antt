@@ -6,7 +6,7 @@ use native.Mathlib.Omega.{arith}
 use Rattle.reading.specs.Script.{Range, Forest, tree}
 use Rattle.reading.specs.Answer.{size}
 use Rattle.demands.specs.Nested.{end, last, Level, top, inside, Nested, next, Row}
-use Rattle.demands.proofs.Nested.{led, forward}
+use Rattle.demands.proofs.Nested.{led, leads, forward}
 
 -- in a forest whose first index is j and whose parent is p, the descriptor with index i is this one
 pub data In : Forest → (j p i : ℕ) → Row → Type 0 where
@@ -42,8 +42,8 @@ parted {p = p} {i = i} {x = x} (behind {inner = inner} {j = j} m) = let h = part
 
 pub in-bounds : {f : Forest} {v : Level} {j p i lo hi : ℕ} {x : Row} → Nested v lo hi f → In f j p i x → (lo ≤ x .first) × (x .first ≤ x .span .start) × (last (x .span) ≤ hi)
 in-bounds (next {v = v} {r = r} z h d i j) (this e) = (h, led v r d, forward j)
-in-bounds (next {v = v} {r = r} z h d i j) (within m) = let b = in-bounds i m in let k = forward j in let l = led v r d in (omega (arith, b .0), b .1, omega (arith, b .2))
-in-bounds (next {v = v} {r = r} z h d i j) (behind m) = let b = in-bounds j m in let k = forward i in let l = led v r d in (omega (arith, b .0), b .1, b .2)
+in-bounds (next {v = v} {r = r} z h d i j) (within m) = let b = in-bounds i m in let k = forward j in let l = leads v r d in (omega (arith, b .0, l .0), b .1, omega (arith, b .2))
+in-bounds (next {v = v} {r = r} z h d i j) (behind m) = let b = in-bounds j m in let k = forward i in let l = leads v r d in (omega (arith, b .0, l .0), b .1, b .2)
 
 -- p is none of the forest's own indices
 pub data Outside (f : Forest) (j p : ℕ) : Type 0 where
@@ -55,7 +55,7 @@ own-outside (under h) m e = let z = parted m in omega (arith, z .first)
 own-outside (over h) m e = let z = parted m in omega (arith, z .last)
 
 -- the parent of what is inside the first range of a forest
-inner-parent : {f : Forest} {j i : ℕ} {x : Row} → In f (j + 1) j i x → (j ≤ x .parent) × (x .parent < j + 1 + size f)
+pub inner-parent : {f : Forest} {j i : ℕ} {x : Row} → In f (j + 1) j i x → (j ≤ x .parent) × (x .parent < j + 1 + size f)
 inner-parent {f} {j} {i} {x} m = let z = parted m in go (z .last) (z .parent)
   where
     go : i < j + 1 + size f → Parent j (j + 1) i (x .parent) → (j ≤ x .parent) × (x .parent < j + 1 + size f)
@@ -84,13 +84,13 @@ not-inside (under h) u v e = omega arith
 not-inside (over h) u v e = omega arith
 
 -- what is inside a range is no datagram's; and at the top each is one's, and has p as its parent
-inner-kind : {f : Forest} {j p i lo hi : ℕ} {x : Row} → Nested inside lo hi f → In f j p i x → 0 < x .kind
+pub inner-kind : {f : Forest} {j p i lo hi : ℕ} {x : Row} → Nested inside lo hi f → In f j p i x → 0 < x .kind
 inner-kind (next kd h d a b) (this e) = kd
 inner-kind (next kd h d a b) (within m) = inner-kind a m
 inner-kind (next kd h d a b) (behind m) = inner-kind b m
 
 -- and begins a word before its range
-inner-led : {f : Forest} {j p i lo hi : ℕ} {x : Row} → Nested inside lo hi f → In f j p i x → x .first + 4 ≤ x .span .start
+pub inner-led : {f : Forest} {j p i lo hi : ℕ} {x : Row} → Nested inside lo hi f → In f j p i x → x .first + 4 ≤ x .span .start
 inner-led (next kd h d a b) (this e) = d
 inner-led (next kd h d a b) (within m) = inner-led a m
 inner-led (next kd h d a b) (behind m) = inner-led b m
@@ -118,7 +118,7 @@ pub record Held (x y : Row) : Type 0 where
 
 pub parent-holds : {f : Forest} {v : Level} {j p i k lo hi : ℕ} {x y : Row} → Nested v lo hi f → Outside f j p → In f j p i x → In f j p k y → x .parent ≡ k → Held x y
 parent-holds (next kd h d a b) o (this e) m z = absurd (own-outside o m z)
-parent-holds (next kd h d a b) o (within m) (this e) z = let u = in-bounds a m in record { from = u .0; leads = inner-led a m; to = u .2 }
+parent-holds (next {v = v} {r = r} kd h d a b) o (within m) (this e) z = let u = in-bounds a m in let l = leads v r d in record { from = omega (arith, u .0, l .1); leads = inner-led a m; to = u .2 }
 parent-holds (next kd h d a b) o (within m) (within n) z = parent-holds a (under (omega arith)) m n z
 parent-holds (next kd h d a b) o (within m) (behind n) z = let u = inner-parent m in let v = parted n in absurd (omega (arith, u .1, v .first))
 parent-holds (next kd h d a b) o (behind m) (this e) z = absurd (after-parent o m (omega arith) (omega arith))

@@ -1,5 +1,6 @@
 -- Ranges that lie inside one another and one after another: of a forest, and of the descriptors in a store. Definitions only. Assumes nothing.
 use Prim.Native.Nat.{ℕ, _+_, _*_, _-_, _≤_, _<_}
+use mathlib.Core.Logic.{_⊎_}
 use mathlib.Core.Path.{_≡_}
 use mathlib.Core.List.{List}
 use lib.ListN.{getD}
@@ -27,11 +28,16 @@ abbrev pub Led : Level → Range → Type 0
 Led top r = r .first ≡ r .span .start
 Led inside r = r .first + 4 ≤ r .span .start
 
+-- where what is inside it may begin: in a datagram behind its first word, in any other where its range does
+abbrev pub inner-from : Level → Range → ℕ
+inner-from top r = r .span .start + 4
+inner-from inside r = r .span .start
+
 -- the ranges of a forest lie between lo and hi, one after another, counted from their first bytes to their pads, and in each lie those inside it
 pub data Nested : Level → (lo hi : ℕ) → Forest → Type 0 where
   none : {v : Level} {lo hi : ℕ} → lo ≤ hi → Nested v lo hi bare
   next : {v : Level} {lo hi : ℕ} {r : Range} {inner after : Forest} → Kind-at v (r .kind) → lo ≤ r .first → Led v r
-      → Nested inside (r .span .start) (end (r .span)) inner → Nested v (last (r .span)) hi after → Nested v lo hi (tree r inner after)
+      → Nested inside (inner-from v r) (end (r .span)) inner → Nested v (last (r .span)) hi after → Nested v lo hi (tree r inner after)
 
 -- one range lies inside another
 abbrev pub Inside : Span → Span → Type 0
@@ -63,6 +69,11 @@ all-of r = record { start = r .first; count = last (r .span) - r .first }
 abbrev pub whole-of : List ℕ → Row → Span
 whole-of s r = whole-span s (r .span .start) (r .span .count) (r .first)
 
+-- the descriptor with index k is under the one with index i: that is its parent, or its parent is under it
+pub data Under (w : List ℕ) (i : ℕ) : (k : ℕ) → Type 0 where
+  child : {k : ℕ} → (row w k .kind ≡ 0 → ⊥) → row w k .parent ≡ i → Under w i k
+  deeper : {k : ℕ} → (row w k .kind ≡ 0 → ⊥) → Under w i (row w k .parent) → Under w i k
+
 -- the descriptors of a store, so many of them, are in place in an input of this length
 pub record In-place (w : List ℕ) (n size : ℕ) : Type 0 where
   -- a datagram's has no parent
@@ -79,3 +90,7 @@ pub record In-place (w : List ℕ) (n size : ℕ) : Type 0 where
   pub all-there : (i : ℕ) → i < n → last (row w i .span) ≤ size
   -- of two with one parent the second's first byte is at or after the end of the first's pad
   pub siblings-apart : (i k : ℕ) → i < k → k < n → row w i .parent ≡ row w k .parent → last (row w i .span) ≤ row w k .first
+  -- they are in order of first byte, a word apart at least
+  pub in-order : (i k : ℕ) → i < k → k < n → row w i .first + 4 ≤ row w k .first
+  -- and depth first: of two, the second is under the first, or begins at or after the end of its pad
+  pub under-or-behind : (i k : ℕ) → i < k → k < n → Under w i k ⊎ (last (row w i .span) ≤ row w k .first)
