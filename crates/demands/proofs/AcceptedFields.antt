@@ -16,7 +16,8 @@ use Rattle.demands.specs.Readings.{Allowed}
 use Rattle.demands.specs.Tries.{Run}
 use Rattle.demands.proofs.Accepted.{given, one-reading, accepted-reads}
 use Rattle.demands.proofs.RunItemised.{run-accepts, run-out, one-run}
-use Rattle.demands.proofs.Fielded.{All-fields, datagram-fields, run-fields}
+use Rattle.demands.specs.DescriptorFields.{All-fields}
+use Rattle.demands.proofs.Fielded.{datagram-fields, run-fields}
 
 pub within-limit : (s w : List ℕ) (x : Answer) → limited s x (refused 1 0 0 0 w) .code ≡ 0 → length s ≤ limit
 within-limit s w x = go (leb (length s) limit) (λ e. leb-true (length s) limit e)

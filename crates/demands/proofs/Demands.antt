@@ -12,12 +12,11 @@ use Rattle.reading.specs.Script.{Value, Forest, Found}
 use Rattle.reading.specs.Grammar.{Is}
 use Rattle.reading.specs.Layout.{Field, depth-limit, datagram-to, datagram}
 use Rattle.reading.specs.Answer.{limit, nobody, row-words, size, room, no-header, Answer, refused, one, run, Fields, read}
-use Rattle.reading.proofs.Descriptors.{descriptor}
 use Rattle.demands.specs.Depths.{Shallow}
 use Rattle.demands.proofs.Limit.{no-deeper, same-reading}
 use Rattle.demands.specs.Readings.{Reading, Answers, Allowed, Accepted}
 use Rattle.demands.proofs.Accepted.{one-reading, accepted-reads, reading-answers, reading-fits}
-use Rattle.demands.proofs.Fielded.{All-fields}
+use Rattle.demands.specs.DescriptorFields.{range, All-fields}
 use Rattle.demands.proofs.AcceptedFields.{one-fields, run-all-fields}
 use Rattle.demands.specs.Stops.{Stops}
 use Rattle.demands.specs.Codes.{one-codes, run-codes, field-codes}
@@ -186,7 +185,7 @@ module _ (s w : List ℕ) where
 
   -- nor to field reading (`PadFields`): whatever fields are asked for of a descriptor of s, they are answered of that input as of s
   pub pads-do-not-matter-to-fields : (t : List ℕ) → one s w .code ≡ 0 → length t ≤ limit → Same-but-pads s t (one s w .at) → (i : ℕ) → i < one s w .needed → (ak af : ℕ)
-      → let d = descriptor (one s w .store) i in
+      → let d = range (one s w .store) i in
       read ak af t (d .kind) (d .format) (d .span .start) (d .span .count) ≡ read ak af s (d .kind) (d .format) (d .span .start) (d .span .count)
   pads-do-not-matter-to-fields t = pads-free-fields s t w
 

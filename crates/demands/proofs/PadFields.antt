@@ -21,9 +21,11 @@ use Rattle.reading.proofs.Sound.{sound}
 use Rattle.reading.proofs.Complete.{complete}
 use Rattle.reading.proofs.Exactly.{ended, longer}
 use Rattle.reading.proofs.Holding.{up-to}
-use Rattle.reading.proofs.Descriptors.{Among, this, inside, later, descriptor, stands-in}
+use Rattle.reading.proofs.Descriptors.{Among, this, inside, later, stands-in}
 use Rattle.demands.specs.FieldsItemised.{only-values}
 use Rattle.demands.specs.Pads.{Same-but-pads}
+use Rattle.demands.specs.DescriptorFields.{range}
+use Rattle.demands.proofs.Fielded.{range-is}
 use Rattle.demands.proofs.Accepted.{accepted-reads}
 use Rattle.demands.proofs.AcceptedFields.{within-limit}
 use Rattle.demands.proofs.Pads.{onward, times-onward, Alike, Alike-times, Goes, Within-goes, here-goes, item-goes, turn-goes, repeat-goes, within-goes, within-lies, times-again, again, accepted-alike}
@@ -302,11 +304,11 @@ read-alike s t r h k f ak af =
     asked false c i j = refl
 
 -- of each descriptor of an accepted input
-pub pads-free-fields : (s t w : List ℕ) → one s w .code ≡ 0 → length t ≤ limit → Same-but-pads s t (one s w .at) → (i : ℕ) → i < one s w .needed → Read-alike s t (descriptor (one s w .store) i)
+pub pads-free-fields : (s t w : List ℕ) → one s w .code ≡ 0 → length t ≤ limit → Same-but-pads s t (one s w .at) → (i : ℕ) → i < one s w .needed → Read-alike s t (range (one s w .store) i)
 unfolding one
 pads-free-fields s t w z k b i h =
     let a = accepted-reads s w z in
     let g = a .found .ranges in
     let e = good-datagram s t (from 0) (a .found) (place (a .bytes) (a .items)) (accepted-alike s t w a b) in
     let m = stands-in g 0 nobody i (drop (row-words * size g) w) (rw (a .answers .needed) at h) in
-    subst (λ (l : List ℕ). Read-alike s t (descriptor l i)) (sym (a .answers .store)) (read-alike s t _ (within-limit s w _ z) k (each-of e (m .1)))
+    subst (λ (l : List ℕ). Read-alike s t (range l i)) (sym (a .answers .store)) (subst (Read-alike s t) (range-is _ i) (read-alike s t _ (within-limit s w _ z) k (each-of e (m .1))))

@@ -6,6 +6,7 @@ pub mod Tries
 pub mod Itemised
 pub mod RunItemised
 pub mod FieldsItemised
+pub mod DescriptorFields
 pub mod Abnf
 pub mod Pads
 pub mod Codes

@@ -1,0 +1,78 @@
+-- The fields of the descriptors of an accepted input: which descriptors have fields that are read here, and that their fields are those of the reading. In
+-- the grammar's terms. Definitions only. Assumes nothing.
+use Prim.Native.Nat.{ℕ, zero, suc, _+_, _*_, _-_, _<_}
+use mathlib.Core.Path.{_≡_}
+use mathlib.Core.Bool.{Bool, true, false, cond}
+use mathlib.Core.List.{List, [], _∷_, _++_}
+use lib.Dec.{eqb}
+use lib.ListN.{take, drop, getD}
+use Rattle.reading.specs.Numbers.{known}
+use Rattle.reading.specs.Script.{Value, Range, Forest, tree, Found, nothing, Script, give, repeat}
+use Rattle.reading.specs.Grammar.{Is}
+use Rattle.reading.specs.Layout.{Row, last-number, pdu, flows, flow, samples, sample, depth-limit}
+use Rattle.reading.specs.Answer.{row-words, size, layout-of, read}
+use Rattle.demands.specs.FieldsItemised.{Fields-reading}
+
+-- the range that the descriptor with this index stands for
+unfoldable pub range : (store : List ℕ) → (index : ℕ) → Range
+range w i = record {
+  kind = getD w (row-words * i + 0) 0;
+  format = getD w (row-words * i + 1) 0;
+  span = record { start = getD w (row-words * i + 2) 0; count = getD w (row-words * i + 3) 0 };
+  depth = getD w (row-words * i + 5) 0;
+  first = getD w (row-words * i + 6) 0;
+}
+
+-- document 01's formats: of the samples that are opened, and of the flow records
+abbrev pub sample-formats : List ℕ
+sample-formats = 1 ∷ 2 ∷ 3 ∷ 4 ∷ 5 ∷ []
+
+abbrev pub flow-formats : List ℕ
+flow-formats = 1 ∷ 2 ∷ 3 ∷ 4 ∷ 1001 ∷ 1002 ∷ 1003 ∷ 1004 ∷ 1005 ∷ 1006 ∷ 1007 ∷ 1008 ∷ 1009 ∷ 1010 ∷ 1011 ∷ 1012 ∷ 1013 ∷ 1014 ∷ 1015 ∷ 1016 ∷ []
+
+-- whether a descriptor of this kind and format has fields that are read: a datagram has, and a sample or a flow record of these formats
+unfoldable pub has-fields : (kind format : ℕ) → Bool
+has-fields zero f = known (0 ∷ []) f
+has-fields (suc zero) f = known sample-formats f
+has-fields (suc (suc zero)) f = known flow-formats f
+has-fields (suc (suc (suc k))) f = false
+
+-- what a table has behind the fields of this format, by their values
+abbrev pub more-of : List Row → ℕ → List Value → Script
+more-of [] f = λ _. give nothing
+more-of (r ∷ rest) f = cond (eqb (r .format) f) (r .more) (more-of rest f)
+
+-- what the grammar reads behind the fields, by their values: so many samples in a datagram, and what the row has; a flow record's PDUs have its depth
+unfoldable pub follows : (kind format depth : ℕ) → List Value → Script
+follows zero f d vs = repeat (last-number vs) (sample depth-limit) (λ a. give a)
+follows (suc zero) f d vs = more-of (samples depth-limit) f vs
+follows (suc (suc zero)) f d vs = more-of (flows (pdu d (flow depth-limit (depth-limit - d)))) f vs
+follows (suc (suc (suc k))) f d vs = give nothing
+
+-- the range r stands in a forest, with `inner` inside it
+pub data Stands-in (r : Range) (inner : Forest) : Forest → Type 0 where
+  this : {after : Forest} → Stands-in r inner (tree r inner after)
+  inside : {o : Range} {within after : Forest} → Stands-in r inner within → Stands-in r inner (tree o within after)
+  later : {o : Range} {within after : Forest} → Stands-in r inner after → Stands-in r inner (tree o within after)
+
+-- the range r of the reading of s that has the ranges g: it stands in g, with `inner` inside it; it begins with bytes that are its layout, and field reading
+-- answers just that; behind them are the bytes of what follows these values, of which `inner` are the ranges
+pub record Fields-are (s : List ℕ) (g : Forest) (r : Range) : Type 0 where
+  pub inner : Forest
+  pub stands : Stands-in r inner g
+  pub values : List Value
+  pub bytes : ℕ
+  pub items : ℕ
+  pub reading : Fields-reading (layout-of (r .kind) (r .format)) (r .span .start) (take (r .span .count) (drop (r .span .start) s)) values bytes items
+  pub answer : read (r .kind) (r .format) s (r .kind) (r .format) (r .span .start) (r .span .count) ≡ record { code = 0; at = r .span .start + bytes; steps = items; values = values }
+  pub next : List ℕ
+  pub rest : List ℕ
+  pub joined : reading .rest ≡ next ++ rest
+  pub found : Found
+  pub more : ℕ
+  pub holds : Is (follows (r .kind) (r .format) (r .depth) values) (r .span .start + bytes) next found more
+  pub ranges : inner ≡ found .ranges
+
+-- so it is of each descriptor of a store in which the rows of g stand, if it has fields
+abbrev pub All-fields : List ℕ → Forest → List ℕ → Type 0
+All-fields s g store = (i : ℕ) → i < size g → has-fields (range store i .kind) (range store i .format) ≡ true → Fields-are s g (range store i)
