@@ -1,6 +1,6 @@
 -- The three demands, said of what the public calls answer: `decode` answers `one s w` to the input s and the store w, `decode_run` answers
 -- `run s w`. This is the file to open first: each theorem is one line, from the file that its heading names. Assumes nothing.
-use Prim.Native.Nat.{ℕ, _+_, _*_, _/_, _≤_, _<_}
+use Prim.Native.Nat.{ℕ, suc, _+_, _*_, _/_, _≤_, _<_}
 use mathlib.Core.Path.{_≡_, sym, subst}
 use mathlib.Core.Logic.{_⊎_, _↔_}
 use mathlib.Core.Bool.{true}
@@ -9,9 +9,9 @@ use lib.ListN.{length, take, drop}
 use Rattle.reading.specs.Utf8.{utf8, Longest}
 use Rattle.reading.specs.Numbers.{known}
 use Rattle.reading.specs.Script.{Value, Forest, Found}
-use Rattle.reading.specs.Grammar.{Is}
-use Rattle.reading.specs.Layout.{Field, depth-limit, datagram-to, datagram}
-use Rattle.reading.specs.Answer.{limit, nobody, row-words, size, room, no-header, Answer, refused, one, run, Fields, read}
+use Rattle.reading.specs.Grammar.{Opaque, Many, Is}
+use Rattle.reading.specs.Layout.{Field, segment, depth-limit, datagram-to, datagram}
+use Rattle.reading.specs.Answer.{limit, nobody, row-words, size, room, no-header, Answer, refused, one, run, Fields, read, Listed, list-word, segment-at, payload}
 use Rattle.demands.specs.Depths.{Shallow}
 use Rattle.demands.proofs.Limit.{no-deeper, same-reading}
 use Rattle.demands.specs.Readings.{Reading, Answers, Allowed, Accepted}
@@ -36,6 +36,8 @@ use Rattle.demands.specs.FieldsItemised.{Fields-reading, Fields-itemised
 use Rattle.demands.proofs.FieldsItemised.{fields-itemised, itemised-only, fields-accepted, fields-coded, fields-quartered, one-fields-reading}
 use Rattle.demands.proofs.Calls.{Call, Public, kept, quartered, never-for-room, placed, too-long, whole-there}
 use Rattle.demands.proofs.Impostors.{Equals, p2, refuses-all, answers-p2, writes-nothing, own-steps, run-invents}
+use Rattle.demands.specs.Parts.{Stands-at, Payload-is, Listed-is, Segment-itemised, First-of-segments}
+use Rattle.demands.proofs.Parts.{payload-is, payload-only, opaque-payload, listed-is, listed-only, segment-is, segment-only, first-segment}
 use Rattle.demands.specs.Abnf.{UTF8-char, UTF8-octets}
 use Rattle.demands.proofs.Characters.{test-by-rules, rules-by-test}
 use Rattle.demands.proofs.IllFormed.{well-before, none-longer, no-char-there}
@@ -254,6 +256,26 @@ module _ (ak af : ℕ) (s : List ℕ) (k f start extent : ℕ) where
 pub only-fields-reading : (l : List Field) (start : ℕ) (b : List ℕ) {vs us : List Value} {n m i j : ℕ} → Fields-reading l start b vs n i → Fields-reading l start b us m j
     → (vs ≡ us) × (n ≡ m) × (i ≡ j)
 only-fields-reading = one-fields-reading
+
+-- ==== what is answered as start and count (`Parts`)
+module _ (s : List ℕ) where
+  -- a payload is the bytes of its range, and is empty where codes 1 or 10 would apply; of an opaque or a string it is what that holds
+  pub payload-exactly : (start extent : ℕ) (x : List ℕ) → (x ≡ payload s start extent) ↔ Payload-is s start extent x
+  payload-exactly start extent x = (λ e. subst (Payload-is s start extent) (sym e) (payload-is s start extent), payload-only s start extent)
+
+  pub payload-of-opaque : {u x : List ℕ} (o : ℕ) → length s ≤ limit → Stands-at s o u → Opaque x u → payload s (o + 4) (length x) ≡ x
+  payload-of-opaque = opaque-payload
+
+  -- a word of a list is the one with so many words before it, and none where the list or the input has no such word
+  pub list-word-exactly : (start count i : ℕ) (a : Listed) → (a ≡ list-word s start count i) ↔ Listed-is s start count i a
+  list-word-exactly start count i a = (λ e. subst (Listed-is s start count i) (sym e) (listed-is s start count i), listed-only s start count i)
+
+  -- a segment of an AS path is read by the grammar, or refused; and the segments of a path one by one, each where the one before ended
+  pub segment-exactly : (at : ℕ) (a : Fields) → (a ≡ segment-at s at) ↔ Segment-itemised s at a
+  segment-exactly at a = (λ e. subst (Segment-itemised s at) (sym e) (segment-is s at), segment-only s at)
+
+  pub segments-one-by-one : (at n : ℕ) (b : List ℕ) (f : Found) (k : ℕ) → length s ≤ limit → Stands-at s at b → Many (suc n) (Is segment) at b f k → First-of-segments s at n b
+  segments-one-by-one = first-segment s
 
 -- ==== the grammar: it knows no limit of depth (`Limit`), and its strings are RFC 3629's (`Characters`, by `Abnf`)
 pub depth-is-the-limit : (o : ℕ) (b : List ℕ) (f : Found) (k : ℕ) → ((n : ℕ) × Is (datagram-to n) o b f k × Shallow depth-limit (f .ranges)) ↔ Is datagram o b f k

@@ -21,6 +21,7 @@ pub mod RunItemised
 pub mod Unseen
 pub mod Codes
 pub mod FieldsItemised
+pub mod Parts
 pub mod RunUnseen
 pub mod AcceptedFields
 pub mod Pads

@@ -7,6 +7,7 @@ pub mod Itemised
 pub mod RunItemised
 pub mod FieldsItemised
 pub mod DescriptorFields
+pub mod Parts
 pub mod Abnf
 pub mod Pads
 pub mod Codes
