@@ -8,7 +8,7 @@ use mathlib.Core.List.{List, _++_}
 use lib.ListN.{length, take, drop}
 use Rattle.reading.specs.Utf8.{utf8, Longest}
 use Rattle.reading.specs.Numbers.{known}
-use Rattle.reading.specs.Script.{Value, Forest, Found}
+use Rattle.reading.specs.Script.{Value, Forest, Found, Script}
 use Rattle.reading.specs.Grammar.{Opaque, Many, Is}
 use Rattle.reading.specs.Layout.{Field, segment, depth-limit, datagram-to, datagram}
 use Rattle.reading.specs.Answer.{limit, nobody, row-words, size, room, no-header, Answer, refused, one, run, Fields, read, Listed, list-word, segment-at, payload}
@@ -23,6 +23,8 @@ use Rattle.demands.specs.Codes.{one-codes, run-codes, field-codes}
 use Rattle.demands.proofs.Codes.{one-coded, run-coded}
 use Rattle.demands.specs.Itemised.{Itemised}
 use Rattle.demands.proofs.Itemised.{one-itemised, fault-refused, one-fault, no-fault, room-last, eight-unseen}
+use Rattle.demands.specs.Owned.{firsts, firsts-before, Own, Counted, Run-counted}
+use Rattle.demands.proofs.Owned.{own, own-before, one-owns, run-owns}
 use Rattle.demands.specs.Tries.{Run, Run-stops}
 use Rattle.demands.specs.RunItemised.{Run-answers, Run-itemised, Run-accepted}
 use Rattle.demands.proofs.RunItemised.{run-itemised, run-accepts, run-answered, run-fits, run-refused, one-run, one-run-fault, no-run-fault, run-room-last}
@@ -158,6 +160,11 @@ module _ (s w : List ℕ) where
   pub steps-are-items : Itemised s w (one s w)
   steps-are-items = one-itemised s w
 
+  -- and each of these items owns four bytes that no other owns (`Owned`): there are as many as steps, and the four bytes from the first of each on are
+  -- apart, and in the input
+  pub steps-own-bytes : (at : List ℕ) × Counted s at × Own 0 (length s) (one s w .steps) at
+  steps-own-bytes = one-owns s w
+
   -- ---- the code is one of document 01's table (`Codes`)
   pub code-is-listed : known one-codes (one s w .code) ≡ true
   code-is-listed = one-coded s w
@@ -212,6 +219,9 @@ module _ (s w : List ℕ) where
   -- ---- demand 3: the steps are the items of every datagram tried
   pub run-steps-are-items : Run-itemised s w (run s w)
   run-steps-are-items = run-itemised s w
+
+  pub run-steps-own-bytes : (at : List ℕ) × Run-counted s at × Own 0 (length s) (run s w .steps) at
+  run-steps-own-bytes = run-owns s w
 
   -- ---- the code is one of document 01's table, and never 2 (`Codes`)
   pub run-code-is-listed : known run-codes (run s w .code) ≡ true
@@ -283,6 +293,13 @@ depth-is-the-limit o b f k = (λ (n, i, z). same-reading n depth-limit o b f k i
 
 pub strings-are-utf8 : (s : List ℕ) → (utf8 s ≡ true) ↔ UTF8-octets s
 strings-are-utf8 s = (test-by-rules s, λ t. rules-by-test t)
+
+-- in every reading by the grammar, of any script, and in one that stops, each item owns four bytes that no other owns (`Owned`)
+pub items-own-bytes : (sc : Script) (o : ℕ) (b : List ℕ) (f : Found) (n : ℕ) (t : Is sc o b f n) → Own o (o + length b) n (firsts sc o b f n t)
+items-own-bytes = own
+
+pub items-before-own-bytes : {sc : Script} {o c i n : ℕ} {b : List ℕ} (t : Stops sc o b c i n) → Own o (o + length b) n (firsts-before t)
+items-before-own-bytes = own-before
 
 -- ==== where a string is ill-formed (`IllFormed`): `Stops` gives code 7 behind its longest well-formed beginning, of n bytes. By the ABNF these are
 -- well-formed, no longer beginning is, and no character begins behind them

@@ -27,6 +27,7 @@ pub mod AcceptedFields
 pub mod Pads
 pub mod PadFields
 pub mod PadExample
+pub mod Owned
 pub mod Calls
 pub mod Impostors
 pub mod Characters

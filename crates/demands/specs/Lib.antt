@@ -8,6 +8,7 @@ pub mod RunItemised
 pub mod FieldsItemised
 pub mod DescriptorFields
 pub mod Parts
+pub mod Owned
 pub mod Abnf
 pub mod Pads
 pub mod Codes

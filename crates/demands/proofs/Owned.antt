@@ -1,0 +1,183 @@
+-- Demand 3: each step owns four bytes that no other owns, accepted or refused. By induction on the reading, and on where it stops. Assumes nothing.
+use Prim.Native.Nat.{ℕ, zero, suc, _+_, _≤_, _<_}
+use mathlib.Core.Path.{_≡_, refl, sym, ap, _∙_}
+use mathlib.Core.List.{List, [], _∷_, _++_}
+use native.Mathlib.Omega.{arith}
+use native.Mathlib.Nat.{le-refl, add-assoc}
+use lib.ListN.{length, drop, length-append, length-drop}
+use Rattle.reading.specs.Script.{Width, four, six, eight, sixteen, octet-count, Value, Found, Item, word, tested, long, int, block, opaque, string, Script, give, refuse, here, item, within, repeat, Forest}
+use Rattle.reading.specs.Grammar.{Opaque, Is-item, Meaning, Many, Is}
+use Rattle.reading.specs.Layout.{datagram-to, datagram}
+use Rattle.reading.specs.Answer.{Answer, one, run}
+use Rattle.demands.specs.Stops.{Opens, Stops, barred, standing, no-item, not-text, past-item, no-opaque, inside-it, past-it, among, past-all}
+use Rattle.demands.specs.Readings.{Allowed}
+use Rattle.demands.specs.Tries.{Datagram-at, Run, over, next, cut, Run-stops, this, later}
+use Rattle.demands.specs.Itemised.{Itemised, too-long as long-one, faulty as faulty-one, no-room as no-room-one, whole as whole-one}
+use Rattle.demands.specs.RunItemised.{Run-itemised, too-long as long-run, faulty as faulty-run, no-room as no-room-run, whole as whole-run}
+use Rattle.demands.specs.Owned.{firsts-of-many, firsts, firsts-before, run-firsts, run-firsts-before, Apart, none, and, Own, Counted, too-long, faulty, whole, Run-counted, too-long as run-long, faulty as run-faulty, whole as run-whole}
+use Rattle.demands.proofs.Itemised.{one-itemised}
+use Rattle.demands.proofs.RunItemised.{run-itemised}
+
+-- ---- positions
+
+forward : {lo hi : ℕ} {l : List ℕ} → Apart lo hi l → lo ≤ hi
+forward (none h) = h
+forward (and h t) = let k = forward t in omega arith
+
+sooner : {lo hi : ℕ} {l : List ℕ} (m : ℕ) → m ≤ lo → Apart lo hi l → Apart m hi l
+sooner {hi = hi} m k (none h) = let z : m ≤ hi = omega arith in none z
+sooner m k (and {i = i} h t) = let z : m ≤ i = omega arith in and z t
+
+farther : {lo hi : ℕ} {l : List ℕ} (m : ℕ) → hi ≤ m → Apart lo hi l → Apart lo m l
+farther {lo = lo} m k (none h) = let z : lo ≤ m = omega arith in none z
+farther m k (and h t) = and h (farther m k t)
+
+apart-on : {lo m hi : ℕ} {l r : List ℕ} → Apart lo m l → Apart m hi r → Apart lo hi (l ++ r)
+apart-on {lo} (none h) u = sooner lo h u
+apart-on (and h t) u = and h (apart-on t u)
+
+-- none; one more in front; and two runs of them
+no-more : {lo hi n : ℕ} → lo ≤ hi → n ≡ 0 → Own lo hi n []
+no-more h e = record { each = sym e; apart = none h }
+
+one-more : {o m hi n k : ℕ} {l : List ℕ} → o + 4 ≤ m → k ≡ 1 + n → Own m hi n l → Own o hi k (o ∷ l)
+one-more {o} h e t = record { each = ap suc (t .each) ∙ omega arith; apart = and (le-refl o) (sooner (o + 4) h (t .apart)) }
+
+and-on : {lo m hi n k j : ℕ} {l r : List ℕ} → j ≡ n + k → Own lo m n l → Own m hi k r → Own lo hi j (l ++ r)
+and-on {l = l} {r} e t u = record { each = length-append l r ∙ omega (arith, t .each, u .each); apart = apart-on (t .apart) (u .apart) }
+
+-- to further behind
+widen : {lo m n : ℕ} {l : List ℕ} (hi : ℕ) → m ≤ hi → Own lo m n l → Own lo hi n l
+widen hi h t = record { each = t .each; apart = farther hi h (t .apart) }
+
+-- ---- an item has four bytes at least
+
+opaque-long : {x u : List ℕ} → Opaque x u → 4 + length x ≤ length u
+opaque-long {x} q = let e = ap length (q .joined) in omega (arith, simp length-append at e, q .four)
+
+wide : (w : Width) → 4 ≤ octet-count w
+wide four = omega arith
+wide six = omega arith
+wide eight = omega arith
+wide sixteen = omega arith
+
+item-long : (i : Item) (o : ℕ) (b : List ℕ) (v : Value) → Is-item i o b v → 4 ≤ length b
+unfolding Is-item
+item-long word o b v (e, _) = omega arith
+item-long (tested ok code) o b v (e, _, _) = omega arith
+item-long long o b v (e, _) = omega arith
+item-long int o b v (e, _) = omega arith
+item-long (block w) o b v (e, _) = let h = wide w in omega arith
+item-long opaque o b v (x, q, _) = let h = opaque-long q in omega arith
+item-long string o b v (x, q, _, _) = let h = opaque-long q in omega arith
+
+-- ---- a reading
+
+own-many : (c : ℕ) (P : Meaning) (each : (o : ℕ) (b : List ℕ) (f : Found) (n : ℕ) → P o b f n → List ℕ)
+    → ((o : ℕ) (b : List ℕ) (f : Found) (n : ℕ) (t : P o b f n) → Own o (o + length b) n (each o b f n t))
+    → (o : ℕ) (b : List ℕ) (f : Found) (n : ℕ) (t : Many c P o b f n) → Own o (o + length b) n (firsts-of-many c P each o b f n t)
+unfolding Many firsts-of-many
+own-many zero P each own o b f n (e, _, m) = no-more (omega arith) m
+own-many (suc c) P each own o b f n (x, y, g, h, m, l, e, _, k, t, u) =
+    let z = ap length e ∙ length-append x y in
+    widen (o + length b) (omega arith) (and-on k (own o x g m t) (own-many c P each own (o + length x) y h l u))
+
+pub own : (sc : Script) (o : ℕ) (b : List ℕ) (f : Found) (n : ℕ) (t : Is sc o b f n) → Own o (o + length b) n (firsts sc o b f n t)
+unfolding Is firsts
+own (give a) o b f n (e, _, m) = no-more (omega arith) m
+own (refuse code) o b f n t = absurd t
+own (here k) o b f n t = own (k o) o b f n t
+own (item i k) o b f n (x, y, v, m, e, c, j, t) =
+    let z = ap length e ∙ length-append x y in
+    let h = item-long i o x v j in
+    one-more (omega arith) c (widen (o + length b) (omega arith) (own (k v) (o + length x) y f m t))
+own (within body k) o b f n (u, y, x, inner, rest, a, m, l, e, c, q, j, t, v) =
+    let z = ap length e ∙ length-append u y in
+    let w = ap length j ∙ length-append inner rest in
+    let h = opaque-long q in
+    one-more (omega arith) (c ∙ add-assoc 1 m l) (widen (o + length b) (omega arith)
+    (and-on refl (widen (o + length u) (omega arith) (own body (o + 4) inner a m t)) (own (k (record { start = o + 4; count = length x }) a) (o + length u) y f l v)))
+own (repeat c body k) o b f n (x, y, a, m, l, e, j, t, v) =
+    let z = ap length e ∙ length-append x y in
+    widen (o + length b) (omega arith) (and-on j (own-many c (Is body) (firsts body) (own body) o x a m t) (own (k a) (o + length x) y f l v))
+
+-- ---- a reading that stops
+
+pub own-before : {sc : Script} {o c i n : ℕ} {b : List ℕ} (t : Stops sc o b c i n) → Own o (o + length b) n (firsts-before t)
+unfolding firsts-before
+own-before (barred e f g) = no-more (omega arith) g
+own-before (standing t) = own-before t
+own-before (no-item m e f) = no-more (omega arith) f
+own-before (not-text x j q l g z e f) = no-more (omega arith) f
+own-before {o = o} {b = b} (past-item {i} x y v m e f j t) =
+    let z = ap length e ∙ length-append x y in
+    let h = item-long i o x v j in
+    one-more (omega arith) f (widen (o + length b) (omega arith) (own-before t))
+own-before (no-opaque m e f) = no-more (omega arith) f
+own-before {o = o} {b = b} (inside-it x m f q t) =
+    let z = ap length (q .joined) in
+    one-more (le-refl (o + 4)) f (widen (o + length b) (omega (arith, simp length-append at z, q .four)) (own-before t))
+own-before {o = o} {b = b} (past-it {body} x u y inner rest a m l e f q j r t) =
+    let z = ap length e ∙ length-append u y in
+    let w = ap length j ∙ length-append inner rest in
+    let h = opaque-long q in
+    one-more (le-refl (o + 4)) (f ∙ add-assoc 1 m l)
+    (widen (o + length b) (omega arith) (and-on refl (widen (o + length u) (omega arith) (own body (o + 4) inner a m r)) (own-before t)))
+own-before {o = o} {b = b} (among {body = body} j x y a m l k e f r t) =
+    let z = ap length e ∙ length-append x y in
+    widen (o + length b) (omega arith) (and-on f (own-many j (Is body) (firsts body) (own body) o x a m r) (own-before t))
+own-before {o = o} {b = b} (past-all {c} {body} x y a m l e f r t) =
+    let z = ap length e ∙ length-append x y in
+    widen (o + length b) (omega arith) (and-on f (own-many c (Is body) (firsts body) (own body) o x a m r) (own-before t))
+
+-- ---- a run
+
+module _ (s : List ℕ) where
+  -- a datagram in it
+  own-datagram : {at : ℕ} {f : Found} {bytes items : ℕ} (d : Datagram-at s at f bytes items) → Own at (at + bytes) items (firsts (datagram-to (d .levels)) at (d .read) f items (d .is))
+  own-datagram {at} {f} {bytes} {items} d = widen (at + bytes) (omega (arith, d .long)) (own (datagram-to (d .levels)) at (d .read) f items (d .is))
+
+  own-tried : {at c i n : ℕ} → at < length s → (t : Stops datagram at (drop at s) c i n) → Own at (length s) n (firsts-before t)
+  own-tried {at} h t = widen (length s) (omega (arith, length-drop at s)) (own-before t)
+
+  own-run : {at end n : ℕ} {g : Forest} (t : Run s at g end n) → Own at (length s) n (run-firsts t)
+  unfolding run-firsts
+  own-run (over e f m z) = no-more (omega arith) m
+  own-run (next f bytes items h m d e z t) = and-on e (own-datagram d) (own-run t)
+  own-run (cut h i t e z) = own-tried h t
+
+  own-run-before : {at c i n : ℕ} (t : Run-stops s at c i n) → Own at (length s) n (run-firsts-before t)
+  unfolding run-firsts-before
+  own-run-before (this h t z) = own-tried h t
+  own-run-before (later f bytes items m d e t) = and-on e (own-datagram d) (own-run-before t)
+
+-- ---- the calls
+
+-- so many are as many
+as-many : {lo hi n k : ℕ} {l : List ℕ} → k ≡ n → Own lo hi n l → Own lo hi k l
+as-many e t = record { each = t .each ∙ sym e; apart = t .apart }
+
+module _ (s w : List ℕ) where
+  own-reading : {f : Found} {bytes items : ℕ} (r : Allowed s f bytes items) → Own 0 (length s) items (firsts (datagram-to (r .reading .levels)) 0 (r .reading .read) f items (r .reading .is))
+  own-reading {f} {bytes} {items} r =
+      let d = r .reading in
+      let z = ap length (d .joined) in
+      widen (length s) (omega (arith, simp length-append at z)) (own (datagram-to (d .levels)) 0 (d .read) f items (d .is))
+
+  pub one-owns : (at : List ℕ) × Counted s at × Own 0 (length s) (one s w .steps) at
+  one-owns = go (one s w) (one-itemised s w)
+    where
+      go : (a : Answer) → Itemised s w a → (at : List ℕ) × Counted s at × Own 0 (length s) (a .steps) at
+      go a (long-one h e) = ([], too-long h, no-more (omega arith) (ap (λ (b : Answer). b .steps) e))
+      go a (faulty-one h c i n t e) = (firsts-before t, faulty t, as-many (ap (λ (b : Answer). b .steps) e) (widen (length s) (omega arith) (own-before t)))
+      go a (no-room-one h f bytes items r k e) = (_, whole r, as-many (ap (λ (b : Answer). b .steps) e) (own-reading r))
+      go a (whole-one h f bytes items r k) = (_, whole r, as-many (k .steps) (own-reading r))
+
+  pub run-owns : (at : List ℕ) × Run-counted s at × Own 0 (length s) (run s w .steps) at
+  run-owns = go (run s w) (run-itemised s w)
+    where
+      go : (a : Answer) → Run-itemised s w a → (at : List ℕ) × Run-counted s at × Own 0 (length s) (a .steps) at
+      go a (long-run h e) = ([], run-long h, no-more (omega arith) (ap (λ (b : Answer). b .steps) e))
+      go a (faulty-run h c i n t e) = (run-firsts-before t, run-faulty t, as-many (ap (λ (b : Answer). b .steps) e) (own-run-before s t))
+      go a (no-room-run h g end n t k e) = (run-firsts t, run-whole t, as-many (ap (λ (b : Answer). b .steps) e) (own-run s t))
+      go a (whole-run h g end n t k) = (run-firsts t, run-whole t, as-many (k .steps) (own-run s t))

@@ -1,0 +1,72 @@
+-- Where each item of a reading begins: a step is one item, and owns the four bytes from there on. Definitions only. Assumes nothing.
+use Prim.Native.Nat.{ℕ, zero, suc, _+_, _≤_, _<_}
+use mathlib.Core.Path.{_≡_}
+use mathlib.Core.List.{List, [], _∷_, _++_}
+use lib.ListN.{length}
+use Rattle.reading.specs.Script.{Forest, Found, Script, give, refuse, here, item, within, repeat}
+use Rattle.reading.specs.Grammar.{Meaning, Many, Is}
+use Rattle.reading.specs.Layout.{datagram-to, datagram}
+use Rattle.reading.specs.Answer.{limit}
+use Rattle.demands.specs.Stops.{Stops, barred, standing, no-item, not-text, past-item, no-opaque, inside-it, past-it, among, past-all}
+use Rattle.demands.specs.Readings.{Allowed}
+use Rattle.demands.specs.Tries.{Run, over, next, cut, Run-stops, this, later}
+
+-- the first byte of each item of so many in a row
+unfoldable pub firsts-of-many : (c : ℕ) (P : Meaning) → ((o : ℕ) (b : List ℕ) (f : Found) (n : ℕ) → P o b f n → List ℕ) → (o : ℕ) (b : List ℕ) (f : Found) (n : ℕ) → Many c P o b f n → List ℕ
+unfolding Many
+firsts-of-many zero P each o b f n t = []
+firsts-of-many (suc c) P each o b f n (x, y, g, h, m, l, _, _, _, t, u) = each o x g m t ++ firsts-of-many c P each (o + length x) y h l u
+
+-- of each item of a reading by the grammar, in the order of reading: an opaque, and then those inside it
+unfoldable pub firsts : (sc : Script) (o : ℕ) (b : List ℕ) (f : Found) (n : ℕ) → Is sc o b f n → List ℕ
+unfolding Is firsts-of-many
+firsts (give a) o b f n t = []
+firsts (refuse code) o b f n t = []
+firsts (here k) o b f n t = firsts (k o) o b f n t
+firsts (item i k) o b f n (x, y, v, m, _, _, _, t) = o ∷ firsts (k v) (o + length x) y f m t
+firsts (within body k) o b f n (u, y, x, inner, rest, a, m, l, _, _, _, _, t, v) = o ∷ (firsts body (o + 4) inner a m t ++ firsts (k (record { start = o + 4; count = length x }) a) (o + length u) y f l v)
+firsts (repeat c body k) o b f n (x, y, a, m, l, _, _, t, v) = firsts-of-many c (Is body) (firsts body) o x a m t ++ firsts (k a) (o + length x) y f l v
+
+-- of each item before a fault
+unfoldable pub firsts-before : {sc : Script} {o c i n : ℕ} {b : List ℕ} → Stops sc o b c i n → List ℕ
+firsts-before (barred e f g) = []
+firsts-before (standing t) = firsts-before t
+firsts-before (no-item m e f) = []
+firsts-before (not-text x j q l g z e f) = []
+firsts-before {o = o} (past-item x y v m e f i t) = o ∷ firsts-before t
+firsts-before (no-opaque m e f) = []
+firsts-before {o = o} (inside-it x m f q t) = o ∷ firsts-before t
+firsts-before {o = o} (past-it {body} x u y inner rest a m l e f q j r t) = o ∷ (firsts body (o + 4) inner a m r ++ firsts-before t)
+firsts-before {o = o} (among {body = body} j x y a m l k e f r t) = firsts-of-many j (Is body) (firsts body) o x a m r ++ firsts-before t
+firsts-before {o = o} (past-all {c} {body} x y a m l e f r t) = firsts-of-many c (Is body) (firsts body) o x a m r ++ firsts-before t
+
+-- of each item of every datagram tried: of a run, and of one that is refused
+unfoldable pub run-firsts : {s : List ℕ} {at end n : ℕ} {g : Forest} → Run s at g end n → List ℕ
+run-firsts (over e f m z) = []
+run-firsts {at = at} (next f bytes items h m d e z t) = firsts (datagram-to (d .levels)) at (d .read) f items (d .is) ++ run-firsts t
+run-firsts (cut h i t e z) = firsts-before t
+
+unfoldable pub run-firsts-before : {s : List ℕ} {at c i n : ℕ} → Run-stops s at c i n → List ℕ
+run-firsts-before (this h t z) = firsts-before t
+run-firsts-before {at = at} (later f bytes items m d e t) = firsts (datagram-to (d .levels)) at (d .read) f items (d .is) ++ run-firsts-before t
+
+-- positions from lo on, four bytes before each next one and before hi: the four bytes from each on are apart, and lie between lo and hi
+pub data Apart : (lo hi : ℕ) → List ℕ → Type 0 where
+  none : {lo hi : ℕ} → lo ≤ hi → Apart lo hi []
+  and : {lo hi i : ℕ} {rest : List ℕ} → lo ≤ i → Apart (i + 4) hi rest → Apart lo hi (i ∷ rest)
+
+-- n items that begin at these positions, each with four bytes of its own between lo and hi
+pub record Own (lo hi n : ℕ) (at : List ℕ) : Type 0 where
+  pub each : length at ≡ n
+  pub apart : Apart lo hi at
+
+-- the items that the answer to s counts, by where they begin: those of the reading, or those before the fault, or none where s is too long
+pub data Counted (s : List ℕ) : List ℕ → Type 0 where
+  too-long : limit < length s → Counted s []
+  faulty : {c i n : ℕ} (t : Stops datagram 0 s c i n) → Counted s (firsts-before t)
+  whole : {f : Found} {bytes items : ℕ} (r : Allowed s f bytes items) → Counted s (firsts (datagram-to (r .reading .levels)) 0 (r .reading .read) f items (r .reading .is))
+
+pub data Run-counted (s : List ℕ) : List ℕ → Type 0 where
+  too-long : limit < length s → Run-counted s []
+  faulty : {c i n : ℕ} (t : Run-stops s 0 c i n) → Run-counted s (run-firsts-before t)
+  whole : {g : Forest} {end n : ℕ} (t : Run s 0 g end n) → Run-counted s (run-firsts t)
