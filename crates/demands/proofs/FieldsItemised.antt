@@ -191,7 +191,7 @@ module _ (ak af : ℕ) (s : List ℕ) (k f start extent : ℕ) where
       go a (too-long h e) z = never (ap (λ (b : Fields). b .code) e) z (omega arith)
       go a (passes h i e) z = never (ap (λ (b : Fields). b .code) e) z (omega arith)
       go a (other h i n e) z = never (ap (λ (b : Fields). b .code) e) z (omega arith)
-      go a (held h i x y (read-whole vs bytes items r e)) z = (vs, bytes, items, record { short = h; lies = i; kind = x; format = y; reading = r })
+      go a (held h i x y (read-whole vs bytes items r e)) z = (vs, bytes, items, record { short = h; lies = omega arith; kind = x; format = y; reading = r })
       go a (held h i x y (stopped-at c j n t e)) z = let m = layout-code (layout-of ak af) (fair-layout ak af) t in never (ap (λ (b : Fields). b .code) e) z (omega (arith, m .0))
 
       answer : {vs : List Value} {bytes items : ℕ} → Fields-read ak af s k f start extent vs bytes items → read ak af s k f start extent ≡ record { code = 0; at = start + bytes; steps = items; values = vs }

@@ -1,11 +1,10 @@
 -- Demand 3, of descriptors by their indices: they are in order of first byte, and depth first. By the forest that the descriptors are of; `Placed` says
 -- it of the store. Assumes nothing.
 use Prim.Native.Nat.{ℕ, _+_, _≤_, _<_}
-use mathlib.Core.Path.{_≡_}
 use native.Mathlib.Omega.{arith}
-use Rattle.reading.specs.Script.{Range, Forest, tree}
+use Rattle.reading.specs.Script.{Forest, tree}
 use Rattle.reading.specs.Answer.{size}
-use Rattle.demands.specs.Nested.{last, Level, inside, Nested, next, Row}
+use Rattle.demands.specs.Nested.{last, Level, Nested, next, Row}
 use Rattle.demands.proofs.Nested.{leads, forward}
 use Rattle.demands.proofs.Siblings.{In, this, within, behind, parted, in-bounds, inner-parent, inner-kind, inner-led}
 

@@ -9,7 +9,7 @@ use Rattle.reading.specs.Script.{Width, four, six, eight, sixteen, octet-count,
 use Rattle.reading.specs.Grammar.{Opaque, Is-item, Meaning, Many, Is}
 use Rattle.reading.specs.Layout.{datagram-to, datagram}
 use Rattle.reading.specs.Answer.{Answer, one, run}
-use Rattle.demands.specs.Stops.{Opens, Stops, barred, standing, no-item, not-text, past-item, no-opaque, inside-it, past-it, among, past-all}
+use Rattle.demands.specs.Stops.{Stops, barred, standing, no-item, not-text, past-item, no-opaque, inside-it, past-it, among, past-all}
 use Rattle.demands.specs.Readings.{Allowed}
 use Rattle.demands.specs.Tries.{Datagram-at, Run, over, next, cut, Run-stops, this, later}
 use Rattle.demands.specs.Itemised.{Itemised, too-long as long-one, faulty as faulty-one, no-room as no-room-one, whole as whole-one}

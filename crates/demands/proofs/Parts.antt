@@ -1,6 +1,6 @@
 -- What is answered as start and count: payloads, words of lists and segments of AS paths are what the grammar has there. Assumes nothing.
 use Prim.Native.Nat.{ℕ, zero, suc, _+_, _*_, _≤_, _<_}
-use mathlib.Core.Logic.{_⊎_, inl, inr}
+use mathlib.Core.Logic.{inl, inr}
 use mathlib.Core.Path.{_≡_, refl, sym, ap, _∙_, subst}
 use mathlib.Core.Bool.{Bool, true, false, cond}
 use mathlib.Core.List.{List, [], _∷_, _++_, append-assoc, append-nil}
@@ -11,13 +11,13 @@ use lib.ListN.{length, take, drop, length-append, length-drop, take-append-drop}
 use lib.Seq.{length-take-le, drop-at}
 use Rattle.reading.specs.Bytes.{be4}
 use Rattle.reading.specs.Utf8.{_&_}
-use Rattle.reading.specs.Script.{Span, Value, number, part, Found, nothing, word}
+use Rattle.reading.specs.Script.{Span, Value, number, part, Found, nothing}
 use Rattle.reading.specs.Grammar.{Opaque, Is-item, Many, Is}
 use Rattle.reading.specs.Layout.{num, any-word, segment, field, fields, run-of}
 use Rattle.reading.specs.Values.{alone, valued, reading}
 use Rattle.reading.specs.Answer.{limit, from, Fields, answered, unread, no-span, Listed, list-word, segment-fields, segment-at, payload-span, payload}
 use Rattle.reading.proofs.Stands.{Stands, be4-here, payload-there, bytes-there, back}
-use Rattle.demands.specs.FieldsItemised.{only-values, no-fields, Fields-reading, Held, read-whole}
+use Rattle.demands.specs.FieldsItemised.{only-values, read-whole}
 use Rattle.demands.specs.Parts.{Stands-at, Payload-is, whole, empty, Word-at, Listed-is, present, absent, Segment-itemised, too-long, passes, held, First-of-segments}
 use Rattle.demands.proofs.Stopping.{Left}
 use Rattle.demands.proofs.FieldsItemised.{layout-held, held-only}

@@ -1,5 +1,5 @@
 -- What is answered as start and count, in the grammar's terms: a payload, a word of a list, and a segment of an AS path. Definitions only. Assumes nothing.
-use Prim.Native.Nat.{ℕ, suc, _+_, _≤_, _<_}
+use Prim.Native.Nat.{ℕ, _+_, _≤_, _<_}
 use mathlib.Core.Logic.{_⊎_}
 use mathlib.Core.Path.{_≡_}
 use mathlib.Core.Bool.{true, false}
