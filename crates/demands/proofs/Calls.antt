@@ -1,4 +1,4 @@
--- The two calls that read an input into a store, and what holds of both. Assumes nothing.
+-- What holds of both calls that read an input into a store. Assumes nothing.
 use Prim.Native.Nat.{ℕ, _/_, _≤_, _<_}
 use mathlib.Core.Path.{_≡_, refl, ap}
 use mathlib.Core.Bool.{Bool, true, false}
@@ -7,22 +7,14 @@ use native.Mathlib.Omega.{arith}
 use borrow.Author.Tests.{le-leb, leb-true, leb-false}
 use lib.Dec.{leb}
 use lib.ListN.{length}
-use Rattle.reading.specs.Answer.{limit, room, Answer, refused, one, run, whole-span}
+use Rattle.reading.specs.Answer.{limit, room, Answer, refused, whole-span}
+use Rattle.demands.specs.Calls.{Call, Public, decode, decode-run}
 use Rattle.demands.specs.Nested.{last, Row, row, all-of, whole-of}
 use Rattle.demands.proofs.Quarter.{Quartered, one-quartered, run-quartered, one-room, run-room}
 use Rattle.demands.proofs.Kept.{Kept, one-kept, run-kept}
 use Rattle.demands.proofs.Placed.{Placed, one-placed, run-placed}
 use Rattle.demands.proofs.Itemised.{long-refused}
 use Rattle.demands.proofs.RunItemised.{run-too-long}
-
--- what is answered to an input and a store
-abbrev pub Call : Type 0
-Call = (input store : List ℕ) → Answer
-
--- `decode` answers `one`, and `decode_run` answers `run`
-pub data Public : Call → Type 0 where
-  decode : Public one
-  decode-run : Public run
 
 pub kept : {c : Call} → Public c → (s w : List ℕ) → Kept w (c s w)
 kept decode s w = one-kept s w

@@ -19,12 +19,13 @@ use Rattle.demands.proofs.Accepted.{one-reading, accepted-reads, readin
 use Rattle.demands.specs.DescriptorFields.{range, All-fields}
 use Rattle.demands.proofs.AcceptedFields.{one-fields, run-all-fields}
 use Rattle.demands.specs.Stops.{Stops}
-use Rattle.demands.specs.Codes.{one-codes, run-codes, field-codes}
+use Rattle.demands.specs.Codes.{one-codes, run-codes, field-codes, Each}
 use Rattle.demands.proofs.Codes.{one-coded, run-coded}
+use Rattle.demands.proofs.CodesOccur.{one-occur, run-occur, field-occur}
 use Rattle.demands.specs.Itemised.{Itemised}
 use Rattle.demands.proofs.Itemised.{one-itemised, fault-refused, one-fault, no-fault, room-last, eight-unseen}
-use Rattle.demands.specs.Owned.{firsts, firsts-before, Own, Counted, Run-counted}
-use Rattle.demands.proofs.Owned.{own, own-before, one-owns, run-owns}
+use Rattle.demands.specs.Owned.{firsts, firsts-before, Own, Counted, Run-counted, Fields-counted}
+use Rattle.demands.proofs.Owned.{own, own-before, one-owns, run-owns, fields-own}
 use Rattle.demands.specs.Tries.{Run, Run-stops}
 use Rattle.demands.specs.RunItemised.{Run-answers, Run-itemised, Run-accepted}
 use Rattle.demands.proofs.RunItemised.{run-itemised, run-accepts, run-answered, run-fits, run-refused, one-run, one-run-fault, no-run-fault, run-room-last}
@@ -36,7 +37,8 @@ use Rattle.demands.specs.Nested.{end, last, Inside, Byte-of, row, all-of
 use Rattle.demands.proofs.Placed.{together}
 use Rattle.demands.specs.FieldsItemised.{Fields-reading, Fields-itemised, Fields-read}
 use Rattle.demands.proofs.FieldsItemised.{fields-itemised, itemised-only, fields-accepted, fields-coded, fields-quartered, one-fields-reading}
-use Rattle.demands.proofs.Calls.{Call, Public, kept, quartered, never-for-room, placed, too-long, whole-there}
+use Rattle.demands.specs.Calls.{Call, Public}
+use Rattle.demands.proofs.Calls.{kept, quartered, never-for-room, placed, too-long, whole-there}
 use Rattle.demands.proofs.Impostors.{Equals, p2, refuses-all, answers-p2, writes-nothing, own-steps, run-invents}
 use Rattle.demands.specs.Parts.{Stands-at, Payload-is, Listed-is, Segment-itemised, First-of-segments}
 use Rattle.demands.proofs.Parts.{payload-is, payload-only, opaque-payload, listed-is, listed-only, segment-is, segment-only, first-segment}
@@ -262,10 +264,24 @@ module _ (ak af : ℕ) (s : List ℕ) (k f start extent : ℕ) where
   pub fields-steps-bounded : 4 * read ak af s k f start extent .steps ≤ extent
   fields-steps-bounded = fields-quartered ak af s k f start extent
 
+  -- and each step owns four of them that no other owns (`Owned`)
+  pub fields-steps-own-bytes : (at : List ℕ) × Fields-counted ak af s k f start extent at × Own start (start + extent) (read ak af s k f start extent .steps) at
+  fields-steps-own-bytes = fields-own ak af s k f start extent
+
 -- no bytes have two readings of a layout
 pub only-fields-reading : (l : List Field) (start : ℕ) (b : List ℕ) {vs us : List Value} {n m i j : ℕ} → Fields-reading l start b vs n i → Fields-reading l start b us m j
     → (vs ≡ us) × (n ≡ m) × (i ≡ j)
 only-fields-reading = one-fields-reading
+
+-- ==== each code of a call's table is answered to some input (`CodesOccur`)
+pub codes-occur : Each (λ c. (s w : List ℕ) × (one s w .code ≡ c)) one-codes
+codes-occur = one-occur
+
+pub run-codes-occur : Each (λ c. (s w : List ℕ) × (run s w .code ≡ c)) run-codes
+run-codes-occur = run-occur
+
+pub field-codes-occur : Each (λ c. (ak af : ℕ) × (s : List ℕ) × (k f start extent : ℕ) × (read ak af s k f start extent .code ≡ c)) field-codes
+field-codes-occur = field-occur
 
 -- ==== what is answered as start and count (`Parts`)
 module _ (s : List ℕ) where

@@ -140,10 +140,15 @@ module _ (ak af : ℕ) (s : List ℕ) (k f start extent : ℕ) where
   not-both true false x y n = refl
   not-both false d x y n = refl
 
+  -- code 1 before all
+  pub fields-too-long : limit < length s → read ak af s k f start extent ≡ no-fields (layout-of ak af) 1 0 0
+  unfolding read answered valued
+  fields-too-long h = rw (lt-leb (length s) limit h)
+
   -- there is one such answer
   pub itemised-only : {a : Fields} → Fields-itemised ak af s k f start extent a → a ≡ read ak af s k f start extent
   unfolding read answered valued
-  itemised-only (too-long h e) = e ∙ rw (lt-leb (length s) limit h)
+  itemised-only (too-long h e) = e ∙ sym (fields-too-long h)
   itemised-only (passes h i e) = e ∙ rw (le-leb (length s) limit h, lt-leb (start + extent) (length s) i)
   itemised-only (other h i n e) = e ∙ rw (le-leb (length s) limit h, le-leb (start + extent) (length s) i, not-both (eqb k ak) (eqb f af) refl refl n)
   itemised-only (held h i x y t) = held-only (layout-of ak af) (range-left s start extent i) t ∙ sym (own-read h i x y)

@@ -9,7 +9,7 @@ use Rattle.reading.specs.Bytes.{be4}
 use Rattle.reading.specs.Numbers.{known, header-protocols}
 use Rattle.reading.specs.Cursor.{read-item, follow}
 use Rattle.reading.specs.Layout.{address-of, run-of, field, fields, last-number, opened, flows, flow, samples, datagram-to}
-use Rattle.demands.proofs.Calls.{Call}
+use Rattle.demands.specs.Calls.{Call}
 use Rattle.reading.specs.Answer.{row-words, size, rows, header-of, no-header, Answer, stored, one, tried, datagrams, run}
 
 -- big-endian words

@@ -30,6 +30,7 @@ pub mod PadExample
 pub mod Owned
 pub mod Calls
 pub mod Impostors
+pub mod CodesOccur
 pub mod Characters
 pub mod IllFormed
 pub mod Demands

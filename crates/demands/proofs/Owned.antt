@@ -4,19 +4,22 @@ use mathlib.Core.Path.{_≡_, refl, sym, ap, _∙_}
 use mathlib.Core.List.{List, [], _∷_, _++_}
 use native.Mathlib.Omega.{arith}
 use native.Mathlib.Nat.{le-refl, add-assoc}
-use lib.ListN.{length, drop, length-append, length-drop}
+use lib.ListN.{length, take, drop, length-append, length-drop, length-take}
 use Rattle.reading.specs.Script.{Width, four, six, eight, sixteen, octet-count, Value, Found, Item, word, tested, long, int, block, opaque, string, Script, give, refuse, here, item, within, repeat, Forest}
 use Rattle.reading.specs.Grammar.{Opaque, Is-item, Meaning, Many, Is}
 use Rattle.reading.specs.Layout.{datagram-to, datagram}
-use Rattle.reading.specs.Answer.{Answer, one, run}
+use Rattle.reading.specs.Values.{alone}
+use Rattle.reading.specs.Answer.{Answer, one, run, layout-of, Fields, read}
 use Rattle.demands.specs.Stops.{Stops, barred, standing, no-item, not-text, past-item, no-opaque, inside-it, past-it, among, past-all}
 use Rattle.demands.specs.Readings.{Allowed}
 use Rattle.demands.specs.Tries.{Datagram-at, Run, over, next, cut, Run-stops, this, later}
 use Rattle.demands.specs.Itemised.{Itemised, too-long as long-one, faulty as faulty-one, no-room as no-room-one, whole as whole-one}
 use Rattle.demands.specs.RunItemised.{Run-itemised, too-long as long-run, faulty as faulty-run, no-room as no-room-run, whole as whole-run}
-use Rattle.demands.specs.Owned.{firsts-of-many, firsts, firsts-before, run-firsts, run-firsts-before, Apart, none, and, Own, Counted, too-long, faulty, whole, Run-counted, too-long as run-long, faulty as run-faulty, whole as run-whole}
+use Rattle.demands.specs.FieldsItemised.{only-values, read-whole, stopped-at, Fields-itemised, too-long as long-fields, passes, other, held}
+use Rattle.demands.specs.Owned.{firsts-of-many, firsts, firsts-before, run-firsts, run-firsts-before, Apart, none, and, Own, Counted, too-long, faulty, whole, Run-counted, too-long as run-long, faulty as run-faulty, whole as run-whole, Fields-counted, not-read, faulty as fields-faulty, whole as fields-whole}
 use Rattle.demands.proofs.Itemised.{one-itemised}
 use Rattle.demands.proofs.RunItemised.{run-itemised}
+use Rattle.demands.proofs.FieldsItemised.{fields-itemised}
 
 -- ---- positions
 
@@ -181,3 +184,22 @@ module _ (s w : List ℕ) where
       go a (faulty-run h c i n t e) = (run-firsts-before t, run-faulty t, as-many (ap (λ (b : Answer). b .steps) e) (own-run-before s t))
       go a (no-room-run h g end n t k e) = (run-firsts t, run-whole t, as-many (ap (λ (b : Answer). b .steps) e) (own-run s t))
       go a (whole-run h g end n t k) = (run-firsts t, run-whole t, as-many (k .steps) (own-run s t))
+
+module _ (ak af : ℕ) (s : List ℕ) (k f start extent : ℕ) where
+  pub fields-own : (at : List ℕ) × Fields-counted ak af s k f start extent at × Own start (start + extent) (read ak af s k f start extent .steps) at
+  fields-own = go (read ak af s k f start extent) (fields-itemised ak af s k f start extent)
+    where
+      l : length (take extent (drop start s)) ≤ extent
+      l = omega (arith, length-take extent (drop start s))
+
+      go : (a : Fields) → Fields-itemised ak af s k f start extent a → (at : List ℕ) × Fields-counted ak af s k f start extent at × Own start (start + extent) (a .steps) at
+      go a (long-fields h e) = ([], not-read (λ x y u v. omega arith), no-more (omega arith) (ap (λ (b : Fields). b .steps) e))
+      go a (passes h i e) = ([], not-read (λ x y u v. omega arith), no-more (omega arith) (ap (λ (b : Fields). b .steps) e))
+      go a (other h i n e) = ([], not-read (λ x y u v. n (u, v)), no-more (omega arith) (ap (λ (b : Fields). b .steps) e))
+      go a (held h i x y (stopped-at c j n t e)) = (firsts-before t, fields-faulty t, as-many (ap (λ (b : Fields). b .steps) e) (widen (start + extent) (omega (arith, l)) (own-before t)))
+      go a (held h i x y (read-whole vs bytes items r e)) =
+          let z = ap length (r .joined) in (
+            _,
+            fields-whole r,
+            as-many (ap (λ (b : Fields). b .steps) e) (widen (start + extent) (omega (arith, l, simp length-append at z)) (own (alone (layout-of ak af)) start (r .read) (only-values vs) items (r .is))),
+          )

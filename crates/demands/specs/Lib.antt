@@ -1,3 +1,4 @@
+pub mod Calls
 pub mod Depths
 pub mod Nested
 pub mod Stops

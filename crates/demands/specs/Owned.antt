@@ -2,13 +2,15 @@
 use Prim.Native.Nat.{ℕ, zero, suc, _+_, _≤_, _<_}
 use mathlib.Core.Path.{_≡_}
 use mathlib.Core.List.{List, [], _∷_, _++_}
-use lib.ListN.{length}
-use Rattle.reading.specs.Script.{Forest, Found, Script, give, refuse, here, item, within, repeat}
+use lib.ListN.{length, take, drop}
+use Rattle.reading.specs.Script.{Value, Forest, Found, Script, give, refuse, here, item, within, repeat}
 use Rattle.reading.specs.Grammar.{Meaning, Many, Is}
 use Rattle.reading.specs.Layout.{datagram-to, datagram}
-use Rattle.reading.specs.Answer.{limit}
+use Rattle.reading.specs.Values.{alone}
+use Rattle.reading.specs.Answer.{limit, layout-of}
 use Rattle.demands.specs.Stops.{Stops, barred, standing, no-item, not-text, past-item, no-opaque, inside-it, past-it, among, past-all}
 use Rattle.demands.specs.Readings.{Allowed}
+use Rattle.demands.specs.FieldsItemised.{only-values, Fields-reading}
 use Rattle.demands.specs.Tries.{Run, over, next, cut, Run-stops, this, later}
 
 -- the first byte of each item of so many in a row
@@ -70,3 +72,10 @@ pub data Run-counted (s : List ℕ) : List ℕ → Type 0 where
   too-long : limit < length s → Run-counted s []
   faulty : {c i n : ℕ} (t : Run-stops s 0 c i n) → Run-counted s (run-firsts-before t)
   whole : {g : Forest} {end n : ℕ} (t : Run s 0 g end n) → Run-counted s (run-firsts t)
+
+-- of field reading: those of the layout, or those before the fault, in the range; none where the range is not read
+pub data Fields-counted (ak af : ℕ) (s : List ℕ) (k f start extent : ℕ) : List ℕ → Type 0 where
+  not-read : (length s ≤ limit → start + extent ≤ length s → k ≡ ak → f ≡ af → ⊥) → Fields-counted ak af s k f start extent []
+  faulty : {c i n : ℕ} (t : Stops (alone (layout-of ak af)) start (take extent (drop start s)) c i n) → Fields-counted ak af s k f start extent (firsts-before t)
+  whole : {vs : List Value} {bytes items : ℕ} (r : Fields-reading (layout-of ak af) start (take extent (drop start s)) vs bytes items)
+      → Fields-counted ak af s k f start extent (firsts (alone (layout-of ak af)) start (r .read) (only-values vs) items (r .is))
