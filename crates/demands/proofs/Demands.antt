@@ -10,7 +10,7 @@ use Rattle.reading.specs.Utf8.{utf8, Longest}
 use Rattle.reading.specs.Numbers.{known}
 use Rattle.reading.specs.Script.{Value, Forest, Found, Script}
 use Rattle.reading.specs.Grammar.{Opaque, Many, Is}
-use Rattle.reading.specs.Layout.{Field, segment, depth-limit, datagram-to, datagram}
+use Rattle.reading.specs.Layout.{Field, any-word, segment, depth-limit, datagram-to, datagram}
 use Rattle.reading.specs.Answer.{limit, nobody, row-words, size, room, no-header, Answer, refused, one, run, Fields, read, Listed, list-word, segment-at, payload}
 use Rattle.demands.specs.Depths.{Shallow}
 use Rattle.demands.proofs.Limit.{no-deeper, same-reading}
@@ -34,14 +34,14 @@ use Rattle.demands.specs.Pads.{Same-but-pads}
 use Rattle.demands.proofs.Pads.{pads-free}
 use Rattle.demands.proofs.PadFields.{pads-free-fields}
 use Rattle.demands.specs.Nested.{end, last, Inside, Byte-of, row, all-of, whole-of, Under}
-use Rattle.demands.proofs.Placed.{together}
+use Rattle.demands.proofs.Placed.{under-inside, together}
 use Rattle.demands.specs.FieldsItemised.{Fields-reading, Fields-itemised, Fields-read}
 use Rattle.demands.proofs.FieldsItemised.{fields-itemised, itemised-only, fields-accepted, fields-coded, fields-quartered, one-fields-reading}
 use Rattle.demands.specs.Calls.{Call, Public}
 use Rattle.demands.proofs.Calls.{kept, quartered, never-for-room, placed, too-long, whole-there}
 use Rattle.demands.proofs.Impostors.{Equals, p2, refuses-all, answers-p2, writes-nothing, own-steps, run-invents}
 use Rattle.demands.specs.Parts.{Stands-at, Payload-is, Listed-is, Segment-itemised, First-of-segments}
-use Rattle.demands.proofs.Parts.{payload-is, payload-only, opaque-payload, listed-is, listed-only, segment-is, segment-only, first-segment}
+use Rattle.demands.proofs.Parts.{payload-is, payload-only, opaque-payload, listed-is, listed-only, words-present, segment-is, segment-only, first-segment}
 use Rattle.demands.specs.Abnf.{UTF8-char, UTF8-octets}
 use Rattle.demands.proofs.Characters.{test-by-rules, rules-by-test}
 use Rattle.demands.proofs.IllFormed.{well-before, none-longer, no-char-there}
@@ -120,11 +120,16 @@ module _ {c : Call} (p : Public c) (s w : List ℕ) where
   pub in-order-of-first-byte : c s w .code ≡ 0 → (i k : ℕ) → i < k → k < c s w .needed → row (c s w .store) i .first + 4 ≤ row (c s w .store) k .first
   in-order-of-first-byte z = placed p s w z .in-order
 
-  -- and depth first: of two, the second is under the first, or its first byte is at or after the end of the first's pad; and those between a descriptor
-  -- and one under it are under it too
+  -- and depth first: of two, the second is under the first, or its first byte is at or after the end of the first's pad
   pub under-or-behind : c s w .code ≡ 0 → (i k : ℕ) → i < k → k < c s w .needed → Under (c s w .store) i k ⊎ (last (row (c s w .store) i .span) ≤ row (c s w .store) k .first)
   under-or-behind z = placed p s w z .under-or-behind
 
+  -- all of what is under a descriptor lies in its range
+  pub under-it-inside : c s w .code ≡ 0 → (i k : ℕ) → k < c s w .needed → Under (c s w .store) i k
+      → (row (c s w .store) k .first < end (row (c s w .store) i .span)) × (last (row (c s w .store) k .span) ≤ end (row (c s w .store) i .span))
+  under-it-inside z i k h u = under-inside (placed p s w z) u h
+
+  -- and those under it stand together: a descriptor between it and one under it is under it too
   pub all-under-it-together : c s w .code ≡ 0 → (i j k : ℕ) → i < j → j < k → k < c s w .needed → Under (c s w .store) i k → Under (c s w .store) i j
   all-under-it-together z = together (placed p s w z)
 
@@ -295,6 +300,11 @@ module _ (s : List ℕ) where
   -- a word of a list is the one with so many words before it, and none where the list or the input has no such word
   pub list-word-exactly : (start count i : ℕ) (a : Listed) → (a ≡ list-word s start count i) ↔ Listed-is s start count i a
   list-word-exactly start count i a = (λ e. subst (Listed-is s start count i) (sym e) (listed-is s start count i), listed-only s start count i)
+
+  -- so each word of a list that stands there is present
+  pub list-words-present : (start count : ℕ) (b : List ℕ) (f : Found) (n : ℕ) → Stands-at s start b → Many count (Is any-word) start b f n → (i : ℕ) → i < count
+      → list-word s start count i .present ≡ true
+  list-words-present = words-present s
 
   -- a segment of an AS path is read by the grammar, or refused; and the segments of a path one by one, each where the one before ended
   pub segment-exactly : (at : ℕ) (a : Fields) → (a ≡ segment-at s at) ↔ Segment-itemised s at a

@@ -154,6 +154,14 @@ module _ (s : List ℕ) (start count i : ℕ) where
       go (absent n e) (present u x f) = absurd (n u x)
       go (absent n e) (absent m f) = e ∙ sym f
 
+-- of words that stand there each is present
+pub words-present : (s : List ℕ) (start count : ℕ) (b : List ℕ) (f : Found) (n : ℕ) → Stands-at s start b → Many count (Is any-word) start b f n → (i : ℕ) → i < count
+    → list-word s start count i .present ≡ true
+words-present s start count b f n st m i h =
+    let l = many-long count start b f n m in
+    let t = stands st in
+    ap (λ (a : Listed). a .present) (sym (listed-only s start count i (present _ (word-here s start count i h (omega (arith, t .fits, l))) refl)))
+
 -- ---- a segment of an AS path
 
 left-at : (s : List ℕ) (at : ℕ) → at ≤ length s → Left s at (drop at s)

@@ -106,7 +106,7 @@ module _ (f : Forest) {lo hi : ℕ} (nested : Nested top lo hi f) (few : size f 
 
 -- what is under a descriptor begins and ends in its range; so the descriptors between the two are under it too
 module _ {w : List ℕ} {n size : ℕ} (p : In-place w n size) where
-  under-inside : {i k : ℕ} → Under w i k → k < n → (row w k .first < end (row w i .span)) × (last (row w k .span) ≤ end (row w i .span))
+  pub under-inside : {i k : ℕ} → Under w i k → k < n → (row w k .first < end (row w i .span)) × (last (row w k .span) ≤ end (row w i .span))
   under-inside {k = k} (child u e) h = let a = p .first-inside k h u in let b = p .pad-inside k h u in (rw (← e) (a .1), rw (← e) b)
   under-inside {k = k} (deeper u m) h =
       let a = p .first-inside k h u in
