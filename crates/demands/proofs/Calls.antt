@@ -7,12 +7,15 @@ use native.Mathlib.Omega.{arith}
 use borrow.Author.Tests.{le-leb, leb-true, leb-false}
 use lib.Dec.{leb}
 use lib.ListN.{length}
-use Rattle.reading.specs.Answer.{limit, room, Answer, refused, whole-span}
+use Rattle.reading.specs.Answer.{limit, room, Answer, refused, whole-span, payload}
 use Rattle.demands.specs.Calls.{Call, Public, decode, decode-run}
 use Rattle.demands.specs.Nested.{last, Row, row, all-of, whole-of}
 use Rattle.demands.proofs.Quarter.{Quartered, one-quartered, run-quartered, one-room, run-room}
 use Rattle.demands.proofs.Kept.{Kept, one-kept, run-kept}
 use Rattle.demands.proofs.Placed.{Placed, one-placed, run-placed}
+use Rattle.demands.specs.DescriptorFields.{range}
+use Rattle.demands.specs.Frames.{Frame-at, Frame}
+use Rattle.demands.proofs.Frames.{frame-payload, one-frames, run-frames}
 use Rattle.demands.proofs.Itemised.{long-refused}
 use Rattle.demands.proofs.RunItemised.{run-too-long}
 
@@ -51,3 +54,11 @@ whole-had s r h k l = rw (le-leb (length s) limit h, le-leb (r .first) (r .span 
 
 pub whole-there : {c : Call} → Public c → (s w : List ℕ) → c s w .code ≡ 0 → (i : ℕ) → i < c s w .needed → whole-of s (row (c s w .store) i) ≡ all-of (row (c s w .store) i)
 whole-there p s w z i h = let t = placed p s w z in whole-had s (row _ i) (within-limit p s w z) (t .first-before i h) (t .all-there i h)
+
+pub framed : {c : Call} → Public c → (s w : List ℕ) → c s w .code ≡ 0 → (i : ℕ) → i < c s w .needed → Frame s (range (c s w .store) i)
+framed decode s w = one-frames s w
+framed decode-run s w = run-frames s w
+
+pub payload-there : {c : Call} → Public c → (s w : List ℕ) → c s w .code ≡ 0 → (i : ℕ) (f : Frame-at s (range (c s w .store) i))
+    → payload s (range (c s w .store) i .span .start) (range (c s w .store) i .span .count) ≡ f .payload
+payload-there {c} p s w z i f = frame-payload s (range (c s w .store) i) (within-limit p s w z) f

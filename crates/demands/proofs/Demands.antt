@@ -38,8 +38,9 @@ use Rattle.demands.proofs.Placed.{under-inside, together}
 use Rattle.demands.specs.FieldsItemised.{Fields-reading, Fields-itemised, Fields-read}
 use Rattle.demands.proofs.FieldsItemised.{fields-itemised, itemised-only, fields-accepted, fields-coded, fields-quartered, one-fields-reading}
 use Rattle.demands.specs.Calls.{Call, Public}
-use Rattle.demands.proofs.Calls.{kept, quartered, never-for-room, placed, too-long, whole-there}
+use Rattle.demands.proofs.Calls.{kept, quartered, never-for-room, placed, too-long, whole-there, framed, payload-there}
 use Rattle.demands.proofs.Impostors.{Equals, p2, refuses-all, answers-p2, writes-nothing, own-steps, run-invents}
+use Rattle.demands.specs.Frames.{Frame-at, Frame}
 use Rattle.demands.specs.Parts.{Stands-at, Payload-is, Listed-is, Segment-itemised, First-of-segments}
 use Rattle.demands.proofs.Parts.{payload-is, payload-only, opaque-payload, listed-is, listed-only, words-present, segment-is, segment-only, first-segment}
 use Rattle.demands.specs.Abnf.{UTF8-char, UTF8-octets}
@@ -132,6 +133,13 @@ module _ {c : Call} (p : Public c) (s w : List ℕ) where
   -- and those under it stand together: a descriptor between it and one under it is under it too
   pub all-under-it-together : c s w .code ≡ 0 → (i j k : ℕ) → i < j → j < k → k < c s w .needed → Under (c s w .store) i k → Under (c s w .store) i j
   all-under-it-together z = together (placed p s w z)
+
+  -- ---- what a descriptor stands for (`Frames`): of a sample or a record, a format word and an opaque, whose payload is its range, and is answered
+  pub frame-stands : c s w .code ≡ 0 → (i : ℕ) → i < c s w .needed → Frame s (range (c s w .store) i)
+  frame-stands = framed p s w
+
+  pub payload-of-frame : c s w .code ≡ 0 → (i : ℕ) (f : Frame-at s (range (c s w .store) i)) → payload s (range (c s w .store) i .span .start) (range (c s w .store) i .span .count) ≡ f .payload
+  payload-of-frame = payload-there p s w
 
   -- ---- the first fault: code 1 comes before all
   pub too-long-first : limit < length s → c s w ≡ refused 1 0 0 0 w

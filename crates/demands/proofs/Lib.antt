@@ -28,6 +28,7 @@ pub mod Pads
 pub mod PadFields
 pub mod PadExample
 pub mod Owned
+pub mod Frames
 pub mod Calls
 pub mod Impostors
 pub mod CodesOccur

@@ -9,6 +9,7 @@ pub mod RunItemised
 pub mod FieldsItemised
 pub mod DescriptorFields
 pub mod Parts
+pub mod Frames
 pub mod Owned
 pub mod Abnf
 pub mod Pads
