@@ -44,7 +44,7 @@ no-more : {lo hi n : ℕ} → lo ≤ hi → n ≡ 0 → Own lo hi n []
 no-more h e = record { each = sym e; apart = none h }
 
 one-more : {o m hi n k : ℕ} {l : List ℕ} → o + 4 ≤ m → k ≡ 1 + n → Own m hi n l → Own o hi k (o ∷ l)
-one-more {o} h e t = record { each = ap suc (t .each) ∙ omega arith; apart = and (le-refl o) (sooner (o + 4) h (t .apart)) }
+one-more {o} h e t = record { each = ap suc (t .each) ∙ omega arith; apart = and (le-refl o) (sooner _ (omega arith) (t .apart)) }
 
 and-on : {lo m hi n k j : ℕ} {l r : List ℕ} → j ≡ n + k → Own lo m n l → Own m hi k r → Own lo hi j (l ++ r)
 and-on {l = l} {r} e t u = record { each = length-append l r ∙ omega (arith, t .each, u .each); apart = apart-on (t .apart) (u .apart) }

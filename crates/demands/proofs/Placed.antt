@@ -100,7 +100,7 @@ module _ (f : Forest) {lo hi : ℕ} (nested : Nested top lo hi f) (few : size f 
         first-before = λ i h. in-bounds nested (listed i h) .1;
         all-there = λ i h. in-bounds nested (listed i h) .2;
         siblings-apart = λ i k l h z. siblings-apart nested outside (listed i (omega arith)) (listed k h) l z;
-        in-order = λ i k l h. in-order nested (listed i (omega arith)) (listed k h) l;
+        in-order = λ i k l h. let o = in-order nested (listed i (omega arith)) (listed k h) l in omega arith;
         under-or-behind = λ i k l h. either-way i k l h (block nested (listed i (omega arith)));
       }
 
