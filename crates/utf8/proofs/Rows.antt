@@ -71,13 +71,13 @@ rows-4 a b c d =
 
 -- the nine rows
 abbrev by-rows : ℕ → ℕ → ℕ → ℕ → ℕ
-by-rows a b c d = pick (utf8-1 a) 1 (pick (among 0xc2 0xdf a & tail b) 2 (rows-3 a b c (pick (utf8-4 a b c d) 4 0)))
+by-rows a b c d = pick (utf8-1 a) 1 (pick (utf8-2 a b) 2 (rows-3 a b c (rows-4 a b c d)))
 
 by-threes : (a b c n : ℕ) → pick (utf8-3 a b c) 3 n ≡ rows-3 a b c n
 by-threes a b c n = rw (pick-or, pick-or, pick-or)
 
-pub by-fours : (a b c : ℕ) {d e r : ℕ} → d ≡ e → r ≡ rows-4 a b c d → r ≡ pick (utf8-4 a b c e) 4 0
-by-fours a b c {d} z e = e ∙ sym (rw (pick-or, pick-or)) ∙ ap (λ (x : ℕ). pick (utf8-4 a b c x) 4 0) z
+by-fours : (a b c d : ℕ) → pick (utf8-4 a b c d) 4 0 ≡ rows-4 a b c d
+by-fours a b c d = rw (pick-or, pick-or)
 
 -- the width by the rows, in the table's order
 module _ (s : List ℕ) (at : ℕ) (h : at < length s) where
@@ -99,8 +99,9 @@ module _ (s : List ℕ) (at : ℕ) (h : at < length s) where
       let z2 : n < 2 → x2 ≡ 0 = λ l. passed 2 x3 (ap (utf8-2 a) (sym (gone 1 (omega arith))) ∙ cut-2 a) (z3 (omega arith)) in
       let k3 = ap (λ (y : ℕ). pick (leb 3 n) (pick (utf8-3 a b c) 3 y) 0) (roomy 4 n x4 z4) ∙ roomy 3 n x3 z3 in
       let k2 = ap (λ (y : ℕ). pick (leb 2 n) (pick (utf8-2 a b) 2 y) 0) k3 ∙ roomy 2 n x2 z2 in
-      let f : x3 ≡ rows-3 a b c x4 = by-threes a b c x4 in
+      let f : x3 ≡ rows-3 a b c (rows-4 a b c d) = by-threes a b c x4 ∙ ap (rows-3 a b c) (by-fours a b c d) in
       width-at s at h (e ∙ sym (ap (λ (y : ℕ). pick (utf8-1 a) 1 y) (k2 ∙ ap (λ (y : ℕ). pick (utf8-2 a b) 2 y) f)))
 
-pub width-rows : (s : List ℕ) (at : ℕ) {b c : ℕ} → b ≡ getD s (at + 1) 0 → c ≡ getD s (at + 2) 0 → {r : ℕ} → r ≡ by-rows (getD s at 0) b c (getD s (at + 3) 0) → at < length s → r ≡ width (drop at s)
-width-rows s at p q e h = by-bytes s at h (rw (p, q) at e)
+pub width-rows : (s : List ℕ) (at : ℕ) {b c d : ℕ} → b ≡ getD s (at + 1) 0 → c ≡ getD s (at + 2) 0 → d ≡ getD s (at + 3) 0
+    → {r : ℕ} → r ≡ by-rows (getD s at 0) b c d → at < length s → r ≡ width (drop at s)
+width-rows s at p q o e h = by-bytes s at h (rw (p, q, o) at e)

@@ -1,9 +1,9 @@
 // RFC 3629, section 4: the table of well-formed byte sequences, a test for each of its nine rows. `among(0xc2, 0xdf, a)` is its %xC2-DF.
 ghost use mathlib.Core.Path.{_≡_};
-ghost use Prim.Native.Nat.{_+_, _≤_, _<_};
-ghost use lib.ListN.{length, drop, getD};
-ghost use Rattle.reading.specs.Utf8.{tail, utf8-4, well-formed};
-ghost use Rattle.reading.proofs.Utf8.{pick, width};
+ghost use Prim.Native.Nat.{_≤_};
+ghost use lib.ListN.{length, drop};
+ghost use Rattle.reading.specs.Utf8.{tail, well-formed};
+ghost use Rattle.reading.proofs.Utf8.{width};
 use crate::ranges::among;
 use crate::ranges::behind;
 
@@ -37,34 +37,19 @@ fn utf8_char(s: &[u8], at: usize) -> usize
     }
     let c = behind(s, at, 2);
     // UTF8-3
-    if among(0xe0, 0xe0, a) & among(0xa0, 0xbf, b) & tail(c) {
+    if among(0xe0, 0xe0, a) & among(0xa0, 0xbf, b) & tail(c)
+        || among(0xe1, 0xec, a) & tail(b) & tail(c)
+        || among(0xed, 0xed, a) & among(0x80, 0x9f, b) & tail(c)
+        || among(0xee, 0xef, a) & tail(b) & tail(c)
+    {
         return 3;
     }
-    if among(0xe1, 0xec, a) & tail(b) & tail(c) {
-        return 3;
-    }
-    if among(0xed, 0xed, a) & among(0x80, 0x9f, b) & tail(c) {
-        return 3;
-    }
-    if among(0xee, 0xef, a) & tail(b) & tail(c) {
-        return 3;
-    }
-    utf8_4(s, at, a, b, c)
-}
-
-// UTF8-4: 4 where one of its rows fits a, b, c and the byte behind them, and 0 where none does.
-fn utf8_4(s: &[u8], at: usize, a: u8, b: u8, c: u8) -> usize
-    requires { ⌜ at < length (now s) ⌝ }
-    ensures { λ r. ⌜ r ≡ pick (utf8-4 a b c (getD (now (s .entry)) (at + 3) 0)) 4 0 ⌝ }
-{
     let d = behind(s, at, 3);
-    if among(0xf0, 0xf0, a) & among(0x90, 0xbf, b) & tail(c) & tail(d) {
-        return 4;
-    }
-    if among(0xf1, 0xf3, a) & tail(b) & tail(c) & tail(d) {
-        return 4;
-    }
-    if among(0xf4, 0xf4, a) & among(0x80, 0x8f, b) & tail(c) & tail(d) {
+    // UTF8-4
+    if among(0xf0, 0xf0, a) & among(0x90, 0xbf, b) & tail(c) & tail(d)
+        || among(0xf1, 0xf3, a) & tail(b) & tail(c) & tail(d)
+        || among(0xf4, 0xf4, a) & among(0x80, 0x8f, b) & tail(c) & tail(d)
+    {
         return 4;
     }
     0
