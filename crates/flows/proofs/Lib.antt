@@ -5,3 +5,5 @@ pub mod Scan
 pub mod Formats
 pub mod Placing
 pub mod Early
+pub mod Loops
+pub mod Cycles

@@ -1,16 +1,11 @@
-use mathlib.Core.Path.{_≡_}
-use Rattle.reading.specs.Cursor.{times, follow}
 use Rattle.reading.specs.Layout.{flow}
-use Rattle.reading.proofs.Counts.{counted}
-use Rattle.xdr.specs.Shown.{place}
-use Rattle.flows.specs.Scanned.{Scan}
 use Rattle.flows.proofs.Early.{passing}
+use Rattle.flows.proofs.Loops.{Counts}
 use Rattle.flows.proofs.ahead.pass_ahead.Statement.{statement}
 use Rattle.flows.proofs.ahead.pass_ahead.Tie as tie
 
 abbrev Inv-loop : tie.InvT-loop
-Inv-loop s n count cur₀ found₀ rest₀ cur found rest =
-    (Scan s cur found) × (counted found (times rest (follow (flow 8 8)) s (place cur)) ≡ counted found₀ (times n (follow (flow 8 8)) s (place cur₀)))
+Inv-loop s n count cur₀ found₀ rest₀ cur found rest = Counts (flow 8 8) s n cur₀ found₀ cur found rest
 
 abbrev μ-loop : tie.MeasureT-loop
 μ-loop s n count cur₀ found₀ rest₀ cur found rest = rest

@@ -1,16 +1,11 @@
 -- The cycle of the second pass: the remaining depth falls at each turn. Assumes nothing.
-use mathlib.Core.Path.{_≡_}
-use native.Mathlib.Omega.{arith}
 use borrow.Author.Needs.{needs}
-use lib.ListN.{length}
-use Rattle.reading.specs.Cursor.{times, follow}
 use Rattle.reading.specs.Layout.{flow, pdu}
-use Rattle.reading.specs.Answer.{from}
-use Rattle.flows.specs.Written.{Ready, a-pen, placed}
 use Rattle.flows.proofs.Placing as placing
-use Prim.Native.Nat.{ℕ, _≤_, _<_, _+_, _*_, _-_}
-use borrow.Fn.Kinds.{In}
-use borrow.Fn.PlainCycle.{Measures, is, falls, and}
+use Prim.Native.Nat.{ℕ, _+_, _*_, _-_}
+use borrow.Fn.PlainCycle.{Measures, falls}
+use Rattle.flows.proofs.Loops.{Places}
+use Rattle.flows.proofs.Cycles.{called-at, called-below}
 use Rattle.flows.proofs.put.put_flow_record.Reads as put-flow-record
 use Rattle.flows.proofs.put.put_flow_record.Kinds as put-flow-record-kinds
 use Rattle.flows.proofs.put.+put_flow_record+put_flow_records+put_pdus.Lts-put_flow_record as put-flow-record-lts
@@ -36,57 +31,14 @@ abbrev μ-put-flow-records : Measures 2 put-flow-records-kinds.ps ℕ
 abbrev μ-put-pdus : Measures 2 put-pdus-kinds.ps ℕ
 μ-put-pdus κs a = 4 * a .1 .1 .0 + 3
 
-abbrev put-flow-record-at : ℕ → In 2 put-flow-record-kinds.ps
-put-flow-record-at t =
-    and
-    2
-    put-flow-record-kinds.ps
-    (is 2 put-flow-record-kinds.ps μ-put-flow-record t)
-    put-flow-record.Pre
-
-abbrev put-flow-record-below : ℕ → In 2 put-flow-record-kinds.ps
-put-flow-record-below t =
-    and
-    2
-    put-flow-record-kinds.ps
-    (falls 2 put-flow-record-kinds.ps _<_ μ-put-flow-record t)
-    put-flow-record.Pre
-
-abbrev put-flow-records-at : ℕ → In 2 put-flow-records-kinds.ps
-put-flow-records-at t =
-    and
-    2
-    put-flow-records-kinds.ps
-    (is 2 put-flow-records-kinds.ps μ-put-flow-records t)
-    put-flow-records.Pre
-
-abbrev put-flow-records-below : ℕ → In 2 put-flow-records-kinds.ps
-put-flow-records-below t =
-    and
-    2
-    put-flow-records-kinds.ps
-    (falls 2 put-flow-records-kinds.ps _<_ μ-put-flow-records t)
-    put-flow-records.Pre
-
-abbrev put-pdus-at : ℕ → In 2 put-pdus-kinds.ps
-put-pdus-at t = and 2 put-pdus-kinds.ps (is 2 put-pdus-kinds.ps μ-put-pdus t) put-pdus.Pre
-
-abbrev put-pdus-below : ℕ → In 2 put-pdus-kinds.ps
-put-pdus-below t =
-    and 2 put-pdus-kinds.ps (falls 2 put-pdus-kinds.ps _<_ μ-put-pdus t) put-pdus.Pre
-
 abbrev put-flow-records-Inv-loop : put-flow-records-lts.InvT-loop
-put-flow-records-Inv-loop s at n left store₀ base parent cur₀ word₀ rest₀ store cur word rest =
-    (length store ≡ length store₀) × (Ready s store (a-pen base parent word) (times rest (follow (flow 8 left)) s (from cur)))
-    × (placed (a-pen base parent word) (times rest (follow (flow 8 left)) s (from cur)) store ≡ placed (a-pen base parent word₀) (times n (follow (flow 8 left)) s (from at)) store₀)
+put-flow-records-Inv-loop s at n left store₀ base parent cur₀ word₀ rest₀ store cur word rest = Places (flow 8 left) s n base parent at word₀ store₀ cur word rest store
 
 abbrev put-flow-records-μ-loop : put-flow-records-lts.MeasureT-loop
 put-flow-records-μ-loop s at n left store₀ base parent cur₀ word₀ rest₀ store cur word rest = rest
 
 abbrev put-pdus-Inv-loop : put-pdus-lts.InvT-loop
-put-pdus-Inv-loop s at left store₀ base word parent cur₀ to₀ rest₀ store cur to rest =
-    (length store ≡ length store₀) × (Ready s store (a-pen base parent to) (times rest (follow (pdu (8 - left) (flow 8 left))) s (from cur)))
-    × (placed (a-pen base parent to) (times rest (follow (pdu (8 - left) (flow 8 left))) s (from cur)) store ≡ placed (a-pen base parent to₀) (times rest₀ (follow (pdu (8 - left) (flow 8 left))) s (from cur₀)) store₀)
+put-pdus-Inv-loop s at left store₀ base word parent cur₀ to₀ rest₀ store cur to rest = Places (pdu (8 - left) (flow 8 left)) s rest₀ base parent cur₀ to₀ store₀ cur to rest store
 
 abbrev put-pdus-μ-loop : put-pdus-lts.MeasureT-loop
 put-pdus-μ-loop s at left store₀ base word parent cur₀ to₀ rest₀ store cur to rest = rest
@@ -134,10 +86,10 @@ pub +put-flow-record+put-flow-records+put-pdus-spec : {M : Type 1} → statement
       be32-reads.Learnt,
       put-frame-reads.Asked,
       put-frame-reads.Learnt,
-      put-pdus-below t,
+      called-below 2 put-pdus-kinds.ps μ-put-pdus put-pdus.Pre t,
       put-pdus.Post,
     )
-    (put-flow-record-at t)
+    (called-at 2 put-flow-record-kinds.ps μ-put-flow-record put-flow-record.Pre t)
     put-flow-record.Post
     (λ c. search putting)  -- put-flow-record-sub-depth
     (λ c. search putting)  -- put-flow-record-cast-depth
@@ -152,8 +104,8 @@ pub +put-flow-record+put-flow-records+put-pdus-spec : {M : Type 1} → statement
     (λ c. search putting)  -- put-flow-record-returns-2
     )
     (λ t. put-flow-records-lts.spec
-    (put-flow-record-below t, put-flow-record.Post)
-    (put-flow-records-at t)
+    (called-below 2 put-flow-record-kinds.ps μ-put-flow-record put-flow-record.Pre t, put-flow-record.Post)
+    (called-at 2 put-flow-records-kinds.ps μ-put-flow-records put-flow-records.Pre t)
     put-flow-records.Post
     put-flow-records-Inv-loop
     put-flow-records-μ-loop
@@ -170,12 +122,12 @@ pub +put-flow-record+put-flow-records+put-pdus-spec : {M : Type 1} → statement
       index-at-reads.Learnt,
       be32-reads.Asked,
       be32-reads.Learnt,
-      put-flow-records-below t,
+      called-below 2 put-flow-records-kinds.ps μ-put-flow-records put-flow-records.Pre t,
       put-flow-records.Post,
       put-reads.Asked,
       put-reads.Learnt,
     )
-    (put-pdus-at t)
+    (called-at 2 put-pdus-kinds.ps μ-put-pdus put-pdus.Pre t)
     put-pdus.Post
     put-pdus-Inv-loop
     put-pdus-μ-loop

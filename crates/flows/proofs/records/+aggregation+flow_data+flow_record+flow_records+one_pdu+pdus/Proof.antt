@@ -1,17 +1,13 @@
 -- The cycle of flow record, aggregation and PDU: the remaining depth falls at each turn. Assumes nothing.
-use Prim.Native.Nat.{ℕ, _<_, _+_, _*_, _-_}
-use mathlib.Core.Path.{_≡_}
+use Prim.Native.Nat.{ℕ, _+_, _*_, _-_}
 use borrow.Author.Needs.{needs}
-use Rattle.reading.specs.Cursor.{times, follow}
 use Rattle.reading.specs.Layout.{flows, flow, pdu}
 use Rattle.reading.specs.Answer.{layout-of}
-use Rattle.reading.proofs.Counts.{counted}
-use Rattle.xdr.specs.Shown.{place}
-use Rattle.flows.specs.Scanned.{Scan}
 use Rattle.flows.proofs.Chain.{within-start}
 use Rattle.flows.proofs.Scan as scan
-use borrow.Fn.Kinds.{In}
-use borrow.Fn.PlainCycle.{Measures, is, falls, and}
+use borrow.Fn.PlainCycle.{Measures, falls, and}
+use Rattle.flows.proofs.Loops.{Counts}
+use Rattle.flows.proofs.Cycles.{called-at, called-below}
 use Rattle.flows.proofs.records.aggregation.Reads as aggregation
 use Rattle.flows.proofs.records.aggregation.Kinds as aggregation-kinds
 use Rattle.flows.proofs.records.+aggregation+flow_data+flow_record+flow_records+one_pdu+pdus.Lts-aggregation as aggregation-lts
@@ -61,63 +57,14 @@ abbrev μ-one-pdu : Measures 1 one-pdu-kinds.ps ℕ
 abbrev μ-pdus : Measures 1 pdus-kinds.ps ℕ
 μ-pdus κs a = 6 * a .1 .1 .1 .0 + 3
 
-abbrev aggregation-at : ℕ → In 1 aggregation-kinds.ps
-aggregation-at t =
-    and 1 aggregation-kinds.ps (is 1 aggregation-kinds.ps μ-aggregation t) aggregation.Pre
-
-abbrev aggregation-below : ℕ → In 1 aggregation-kinds.ps
-aggregation-below t =
-    and 1 aggregation-kinds.ps (falls 1 aggregation-kinds.ps _<_ μ-aggregation t) aggregation.Pre
-
-abbrev flow-data-at : ℕ → In 1 flow-data-kinds.ps
-flow-data-at t = and 1 flow-data-kinds.ps (is 1 flow-data-kinds.ps μ-flow-data t) flow-data.Pre
-
-abbrev flow-data-below : ℕ → In 1 flow-data-kinds.ps
-flow-data-below t =
-    and 1 flow-data-kinds.ps (falls 1 flow-data-kinds.ps _<_ μ-flow-data t) flow-data.Pre
-
-abbrev flow-record-at : ℕ → In 1 flow-record-kinds.ps
-flow-record-at t =
-    and 1 flow-record-kinds.ps (is 1 flow-record-kinds.ps μ-flow-record t) flow-record.Pre
-
-abbrev flow-record-below : ℕ → In 1 flow-record-kinds.ps
-flow-record-below t =
-    and 1 flow-record-kinds.ps (falls 1 flow-record-kinds.ps _<_ μ-flow-record t) flow-record.Pre
-
-abbrev flow-records-at : ℕ → In 1 flow-records-kinds.ps
-flow-records-at t =
-    and 1 flow-records-kinds.ps (is 1 flow-records-kinds.ps μ-flow-records t) flow-records.Pre
-
-abbrev flow-records-below : ℕ → In 1 flow-records-kinds.ps
-flow-records-below t =
-    and
-    1
-    flow-records-kinds.ps
-    (falls 1 flow-records-kinds.ps _<_ μ-flow-records t)
-    flow-records.Pre
-
-abbrev one-pdu-at : ℕ → In 1 one-pdu-kinds.ps
-one-pdu-at t = and 1 one-pdu-kinds.ps (is 1 one-pdu-kinds.ps μ-one-pdu t) one-pdu.Pre
-
-abbrev one-pdu-below : ℕ → In 1 one-pdu-kinds.ps
-one-pdu-below t = and 1 one-pdu-kinds.ps (falls 1 one-pdu-kinds.ps _<_ μ-one-pdu t) one-pdu.Pre
-
-abbrev pdus-at : ℕ → In 1 pdus-kinds.ps
-pdus-at t = and 1 pdus-kinds.ps (is 1 pdus-kinds.ps μ-pdus t) pdus.Pre
-
-abbrev pdus-below : ℕ → In 1 pdus-kinds.ps
-pdus-below t = and 1 pdus-kinds.ps (falls 1 pdus-kinds.ps _<_ μ-pdus t) pdus.Pre
-
 abbrev flow-records-Inv-loop : flow-records-lts.InvT-loop
-flow-records-Inv-loop s n left count cur₀ found₀ rest₀ cur found rest =
-    (Scan s cur found) × (counted found (times rest (follow (flow 8 left)) s (place cur)) ≡ counted found₀ (times n (follow (flow 8 left)) s (place cur₀)))
+flow-records-Inv-loop s n left count cur₀ found₀ rest₀ cur found rest = Counts (flow 8 left) s n cur₀ found₀ cur found rest
 
 abbrev flow-records-μ-loop : flow-records-lts.MeasureT-loop
 flow-records-μ-loop s n left count cur₀ found₀ rest₀ cur found rest = rest
 
 abbrev pdus-Inv-loop : pdus-lts.InvT-loop
-pdus-Inv-loop s n left count cur₀ found₀ rest₀ cur found rest =
-    (Scan s cur found) × (counted found (times rest (follow (pdu (8 - left) (flow 8 left))) s (place cur)) ≡ counted found₀ (times n (follow (pdu (8 - left) (flow 8 left))) s (place cur₀)))
+pdus-Inv-loop s n left count cur₀ found₀ rest₀ cur found rest = Counts (pdu (8 - left) (flow 8 left)) s n cur₀ found₀ cur found rest
 
 abbrev pdus-μ-loop : pdus-lts.MeasureT-loop
 pdus-μ-loop s n left count cur₀ found₀ rest₀ cur found rest = rest
@@ -169,10 +116,10 @@ unfolding layout-of flows
       wireless-Extended80211Aggregation-parse-reads.Learnt,
       passed-reads.Asked,
       passed-reads.Learnt,
-      pdus-below t,
+      called-below 1 pdus-kinds.ps μ-pdus pdus.Pre t,
       pdus.Post,
     )
-    (aggregation-at t)
+    (called-at 1 aggregation-kinds.ps μ-aggregation aggregation.Pre t)
     aggregation.Post
     (λ c κs. search scanning)  -- aggregation-parse-requires records.rt:90:9
     (λ c κs. search scanning)  -- aggregation-passed-requires
@@ -183,12 +130,12 @@ unfolding layout-of flows
     (λ c. search scanning)  -- aggregation-returns-2 records.rt:86:1
     )
     (λ t. flow-data-lts.spec (
-      aggregation-below t,
+      called-below 1 aggregation-kinds.ps μ-aggregation aggregation.Pre t,
       aggregation.Post,
       pass-reads.Asked,
       pass-reads.Learnt,
     )
-    (flow-data-at t)
+    (called-at 1 flow-data-kinds.ps μ-flow-data flow-data.Pre t)
     flow-data.Post
     (λ c κs. search scanning)  -- flow-data-aggregation-requires records.rt:77:9
     (λ c. search scanning)  -- flow-data-returns records.rt:77:9
@@ -203,10 +150,10 @@ unfolding layout-of flows
       refusal-reads.Learnt,
       frames-Frame-parse-reads.Asked,
       frames-Frame-parse-reads.Learnt,
-      flow-data-below t,
+      called-below 1 flow-data-kinds.ps μ-flow-data flow-data.Pre t,
       flow-data.Post,
     )
-    (flow-record-at t)
+    (called-at 1 flow-record-kinds.ps μ-flow-record flow-record.Pre t)
     flow-record.Post
     (λ c κs. search scanning)  -- flow-record-refusal-requires records.rt:46:30
     (λ c. search scanning)  -- flow-record-returns records.rt:46:9
@@ -225,8 +172,8 @@ unfolding layout-of flows
     (λ c. search scanning)  -- flow-record-returns-4 records.rt:41:1
     )
     (λ t. flow-records-lts.spec
-    (flow-record-below t, flow-record.Post)
-    (flow-records-at t)
+    (called-below 1 flow-record-kinds.ps μ-flow-record flow-record.Pre t, flow-record.Post)
+    (called-at 1 flow-records-kinds.ps μ-flow-records flow-records.Pre t)
     flow-records.Post
     flow-records-Inv-loop
     flow-records-μ-loop
@@ -243,10 +190,10 @@ unfolding layout-of flows
     (λ t. one-pdu-lts.spec (
       read-u32-reads.Asked,
       read-u32-reads.Learnt,
-      flow-records-below t,
+      called-below 1 flow-records-kinds.ps μ-flow-records flow-records.Pre t,
       flow-records.Post,
     )
-    (one-pdu-at t)
+    (called-at 1 one-pdu-kinds.ps μ-one-pdu one-pdu.Pre t)
     one-pdu.Post
     (λ c κs. search scanning)  -- one-pdu-read-u32-requires records.rt:127:11
     (λ c. search scanning)  -- one-pdu-enum-known-r records.rt:128:20
@@ -257,8 +204,8 @@ unfolding layout-of flows
     (λ c. search scanning)  -- one-pdu-returns-2 records.rt:123:1
     )
     λ t. pdus-lts.spec
-    (one-pdu-below t, one-pdu.Post)
-    (pdus-at t)
+    (called-below 1 one-pdu-kinds.ps μ-one-pdu one-pdu.Pre t, one-pdu.Post)
+    (called-at 1 pdus-kinds.ps μ-pdus pdus.Pre t)
     pdus.Post
     pdus-Inv-loop
     pdus-μ-loop

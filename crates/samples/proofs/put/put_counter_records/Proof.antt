@@ -1,19 +1,12 @@
-use mathlib.Core.Path.{_≡_}
-use lib.ListN.{length}
-use Rattle.reading.specs.Cursor.{times, follow}
 use Rattle.reading.specs.Layout.{counter}
-use Rattle.reading.specs.Answer.{from}
-use Rattle.flows.specs.Written as written
-use Rattle.flows.specs.Written.{Ready, a-pen}
 use Rattle.flows.proofs.Placing.{put-done}
 use Rattle.samples.proofs.Placed.{counter-turn, writing}
+use Rattle.flows.proofs.Loops.{Places}
 use Rattle.samples.proofs.put.put_counter_records.Statement.{statement}
 use Rattle.samples.proofs.put.put_counter_records.Tie as tie
 
 abbrev Inv-loop : tie.InvT-loop
-Inv-loop s at n store₀ base parent cur₀ word₀ rest₀ store cur word rest =
-    (length store ≡ length store₀) × (Ready s store (a-pen base parent word) (times rest (follow (counter)) s (from cur)))
-    × (written.placed (a-pen base parent word) (times rest (follow (counter)) s (from cur)) store ≡ written.placed (a-pen base parent word₀) (times n (follow (counter)) s (from at)) store₀)
+Inv-loop s at n store₀ base parent cur₀ word₀ rest₀ store cur word rest = Places counter s n base parent at word₀ store₀ cur word rest store
 
 abbrev μ-loop : tie.MeasureT-loop
 μ-loop s at n store₀ base parent cur₀ word₀ rest₀ store cur word rest = rest

@@ -1,16 +1,11 @@
-use mathlib.Core.Path.{_≡_}
-use Rattle.reading.specs.Cursor.{times, follow}
 use Rattle.reading.specs.Layout.{counter}
-use Rattle.reading.proofs.Counts.{counted}
-use Rattle.xdr.specs.Shown.{place}
-use Rattle.flows.specs.Scanned.{Scan}
 use Rattle.samples.proofs.Sampling.{sampling}
+use Rattle.flows.proofs.Loops.{Counts}
 use Rattle.samples.proofs.scan.counter_records.Statement.{statement}
 use Rattle.samples.proofs.scan.counter_records.Tie as tie
 
 abbrev Inv-loop : tie.InvT-loop
-Inv-loop s n count cur₀ found₀ rest₀ cur found rest =
-    (Scan s cur found) × (counted found (times rest (follow (counter)) s (place cur)) ≡ counted found₀ (times n (follow (counter)) s (place cur₀)))
+Inv-loop s n count cur₀ found₀ rest₀ cur found rest = Counts counter s n cur₀ found₀ cur found rest
 
 abbrev μ-loop : tie.MeasureT-loop
 μ-loop s n count cur₀ found₀ rest₀ cur found rest = rest
