@@ -202,9 +202,6 @@ none-ends t h = longest-is (longest t) (record {
 
 -- ---- the whole, by where it ends
 
-pub well-formed-few : (s : List ℕ) → well-formed s ≤ length s
-well-formed-few s = longest s .within
-
 pub all-well : (s : List ℕ) → length s ≤ well-formed s → utf8 s ≡ true
 all-well s h = ap utf8 (sym (take-all (well-formed s) s h)) ∙ longest s .well
 
