@@ -1,28 +1,29 @@
--- Demand 2, for one datagram: it is accepted exactly when the grammar reads it with no record deeper than 8; there is one such reading, and
--- the answer is that reading's. Assumes nothing.
-use Prim.Native.Nat.{ℕ, _+_, _/_, _≤_}
-use mathlib.Core.Path.{_≡_, refl, sym, ap, _∙_}
-use mathlib.Core.Bool.{Bool, true, false, cond}
+-- One datagram: the cursor gives just the readings of the grammar that have no record deeper than 8, of which an input has one, and just its faults.
+-- So `decode` is a call that `Itemised` speaks of. Assumes nothing.
+use Prim.Native.Nat.{ℕ, _+_}
+use mathlib.Core.Path.{_≡_, refl, sym, ap, _∙_, subst}
 use mathlib.Core.List.{List}
 use native.Mathlib.Omega.{arith}
 use native.Mathlib.Nat.{zero-add}
-use borrow.Author.Tests.{le-leb, leb-true}
-use lib.Dec.{leb}
-use lib.ListN.{length, length-append}
+use lib.ListN.{length-append}
 use Rattle.reading.specs.Script.{Found}
 use Rattle.reading.specs.Cursor.{Place, Out, got, stop, follow}
 use Rattle.reading.specs.Layout.{depth-limit, datagram-to, datagram}
-use Rattle.reading.specs.Answer.{limit, from, size, room, header-of, Answer, refused, stored, one}
+use Rattle.reading.specs.Answer.{limited, from, header-of, Answer, refused, stored, one}
 use Rattle.reading.proofs.Stands.{place}
 use Rattle.reading.proofs.Complete.{complete}
 use Rattle.reading.proofs.Exactly.{accepted-is-read}
-use Rattle.demands.specs.Readings.{Reading, Allowed, Answers, Accepted}
-use Rattle.reading.proofs.Faults.{Sure, fault}
 use Rattle.reading.proofs.Codes.{sure-datagram}
-use Rattle.demands.proofs.Quarter.{one-size}
+use Rattle.demands.specs.Readings.{Reading}
 use Rattle.demands.specs.Depths.{Shallow}
+use Rattle.demands.specs.Stops.{Stops}
+use Rattle.demands.specs.Itemised.{a-datagram}
+use Rattle.demands.proofs.Quarter.{one-size}
 use Rattle.demands.proofs.Depths.{deeper}
 use Rattle.demands.proofs.Limit.{no-deeper, same-reading}
+use Rattle.demands.proofs.Stopped.{stopped}
+use Rattle.demands.proofs.Halting.{halting}
+use Rattle.demands.proofs.Itemised.{shown, Says, read, stopped as halts, Reads}
 
 -- with so many levels, the cursor gives a reading that is no deeper
 pub given : (m : ℕ) (s : List ℕ) {f : Found} {n k : ℕ} → Reading s f n k → Shallow m (f .ranges) → follow (datagram-to m) s (place 0 0) ≡ got f (place n k)
@@ -40,48 +41,33 @@ one-reading s {f} {g} {n} {m} {k} {l} a b =
     let p : place n k ≡ place m l = cc in
     (cc, ap (λ (q : Place). q .at) p, ap (λ (q : Place). q .steps) p)
 
-module _ (s : List ℕ) where
-  pub accepted-allowed : (a : Found) (q : Place) → follow datagram s (from 0) ≡ got a q → Allowed s a (q .at) (q .steps)
-  accepted-allowed a q e =
-      let r = accepted-is-read s a (q .at) (q .steps) e in
-      record {
-        reading = record { levels = depth-limit; read = r .read; rest = r .rest; joined = r .joined; long = r .long; is = r .is };
-        shallow = deeper _ (omega arith) (no-deeper depth-limit 0 (r .read) a (q .steps) (r .is));
-      }
+-- where the cursor stops there is a fault, and where there is a fault it stops
+stops-there : (s : List ℕ) (c i n : ℕ) → Stops datagram 0 s c i n → follow datagram s (from 0) ≡ stop c i n
+stops-there s c i n t = halting t s 0 (record { there = refl; fits = omega arith }) ∙ ap (λ (k : ℕ). stop c i k) (zero-add n)
 
-  -- the answer to an accepted reading
-  pub stored-answers : (w : List ℕ) (a : Found) (q : Place) → size (a .ranges) ≤ room w → Answers w a (q .at) (q .steps) (stored header-of (got a q) w)
-  unfolding stored
-  stored-answers w a q h = rw (le-leb (size (a .ranges)) (room w) h) (record { code = refl; at = refl; steps = refl; needed = refl; head = refl; store = refl })
+says : (s : List ℕ) (o : Out Found) → follow datagram s (from 0) ≡ o → Says a-datagram s o
+says s (got a q) e =
+    let r = accepted-is-read s a (q .at) (q .steps) e in
+    read (record {
+      reading = record { levels = depth-limit; read = r .read; rest = r .rest; joined = r .joined; long = r .long; is = r .is };
+      shallow = deeper _ (omega arith) (no-deeper depth-limit 0 (r .read) a (q .steps) (r .is));
+    })
+says s (stop c i n) e =
+    let r = stopped datagram s (from 0) c i n (omega arith) e in
+    halts (subst (λ (k : ℕ). Stops datagram 0 s c i k) (sym (r .steps ∙ zero-add (r .items))) (r .stops))
 
-module _ (s w : List ℕ) where
-  stored-accepted : (o : Out Found) → follow datagram s (from 0) ≡ o → Sure o → stored header-of o w .code ≡ 0 → Accepted s w (stored header-of o w)
-  unfolding stored
-  stored-accepted (got a q) e t z = go (leb (size (a .ranges)) (room w)) refl z
-    where
-      go : (b : Bool) → leb (size (a .ranges)) (room w) ≡ b → stored header-of (got a q) w .code ≡ 0 → Accepted s w (stored header-of (got a q) w)
-      go true h z = record { found = a; bytes = q .at; items = q .steps; allowed = accepted-allowed s a q e; answers = stored-answers s w a q (leb-true _ _ h) }
-      go false h z = let x : _≡_ {A = ℕ} 9 0 = rw h at z in absurd (omega arith)
-  stored-accepted (stop c a n) e (fault k) z = absurd (omega arith)
-
-  -- where the code is 0, there is a reading, and the answer is that reading's
-  pub accepted-reads : one s w .code ≡ 0 → Accepted s w (one s w)
-  unfolding one
-  accepted-reads = go (leb (length s) limit)
-    where
-      x : Answer
-      x = stored header-of (follow datagram s (from 0)) w
-
-      go : (b : Bool) → cond b x (refused 1 0 0 0 w) .code ≡ 0 → Accepted s w (cond b x (refused 1 0 0 0 w))
-      go true z = stored-accepted (follow datagram s (from 0)) refl (sure-datagram s (from 0)) z
-      go false z = absurd (omega arith)
-
-  module _ (short : length s ≤ limit) {f : Found} {bytes items : ℕ} (r : Allowed s f bytes items) where
-    -- where there is a reading and the store has room for it, the answer is that reading's
-    pub reading-answers : size (f .ranges) ≤ room w → Answers w f bytes items (one s w)
-    unfolding one
-    reading-answers h = rw (le-leb (length s) limit short, given depth-limit s (r .reading) (r .shallow)) (stored-answers s w f (place bytes items) h)
-
-    -- which a store for a quarter of the length has
-    pub reading-fits : length s / 4 ≤ room w → size (f .ranges) ≤ room w
-    reading-fits h = let k = one-size s w f (place bytes items) (given depth-limit s (r .reading) (r .shallow)) in omega (arith, k)
+pub one-reads : Reads a-datagram one
+unfolding shown stored one
+one-reads = record {
+  outcome = λ s. follow datagram s (from 0);
+  says = λ s. says s (follow datagram s (from 0)) refl;
+  is-read = λ s f end n a. given depth-limit s (a .reading) (a .shallow);
+  is-stopped = stops-there;
+  sure = λ s. sure-datagram s (from 0);
+  small = λ s f end n a. one-size s f (place end n) (given depth-limit s (a .reading) (a .shallow));
+  answer = λ s w. ap (λ (a : Answer). limited s a (refused 1 0 0 0 w)) (same w (follow datagram s (from 0)));
+}
+  where
+    same : (w : List ℕ) (o : Out Found) → stored header-of o w ≡ shown a-datagram o w
+    same w (got a q) = refl
+    same w (stop c i n) = refl

@@ -13,11 +13,11 @@ use Rattle.reading.proofs.Faults.{both, test-code, fair-item, fair-field, fair,
 use Rattle.reading.proofs.Codes.{coded-datagram}
 use Rattle.demands.specs.Codes.{one-codes, run-codes, field-codes}
 use Rattle.demands.specs.Stops.{No-opaque, no-length, too-long as above, cut, No-item, no-word, no-tested, failed, no-long, no-int, no-block, no-part, no-string, Stops, barred, standing, no-item, not-text, past-item, no-opaque, inside-it, past-it, among, past-all}
-use Rattle.demands.specs.Itemised.{Itemised, too-long, faulty, no-room, whole}
+use Rattle.demands.specs.Itemised.{a-datagram, a-run, Itemised, too-long, faulty, no-room, whole}
 use Rattle.demands.specs.Tries.{Run-stops, this, later}
-use Rattle.demands.specs.RunItemised.{Run-itemised, too-long as run-long, faulty as run-faulty, no-room as run-no-room, whole as run-whole}
-use Rattle.demands.proofs.Itemised.{one-itemised}
-use Rattle.demands.proofs.RunItemised.{run-itemised}
+use Rattle.demands.proofs.Itemised.{itemised}
+use Rattle.demands.proofs.Accepted.{one-reads}
+use Rattle.demands.proofs.RunItemised.{run-reads}
 
 -- ---- the code of a fault
 
@@ -138,22 +138,22 @@ of-fields c h k l =
 -- ---- the calls
 
 pub one-coded : (s w : List ℕ) → known one-codes (one s w .code) ≡ true
-one-coded s w = go (one s w) (one-itemised s w)
+one-coded s w = go (one s w) (itemised one-reads s w)
   where
-    go : (a : Answer) → Itemised s w a → known one-codes (a .code) ≡ true
+    go : (a : Answer) → Itemised a-datagram s w a → known one-codes (a .code) ≡ true
     go a (too-long h e) = let z = ap (λ (b : Answer). b .code) e in of-one (a .code) (omega arith)
     go a (faulty h c i n t e) = let z = ap (λ (b : Answer). b .code) e in let k = fault-code {m = 8} (omega arith) (to-8 coded-datagram) t in of-one (a .code) (omega (arith, k .1))
     go a (no-room h f bytes items r k e) = let z = ap (λ (b : Answer). b .code) e in of-one (a .code) (omega arith)
-    go a (whole h f bytes items r k) = of-one (a .code) (omega (arith, k .code))
+    go a (whole k e) = of-one (a .code) (omega (arith, k .answers .code))
 
 pub run-coded : (s w : List ℕ) → known run-codes (run s w .code) ≡ true
-run-coded s w = go (run s w) (run-itemised s w)
+run-coded s w = go (run s w) (itemised run-reads s w)
   where
-    go : (a : Answer) → Run-itemised s w a → known run-codes (a .code) ≡ true
-    go a (run-long h e) = let z = ap (λ (b : Answer). b .code) e in of-run (a .code) (omega arith) (λ y. omega arith)
-    go a (run-faulty h c i n t e) =
+    go : (a : Answer) → Itemised a-run s w a → known run-codes (a .code) ≡ true
+    go a (too-long h e) = let z = ap (λ (b : Answer). b .code) e in of-run (a .code) (omega arith) (λ y. omega arith)
+    go a (faulty h c i n t e) =
         let z = ap (λ (b : Answer). b .code) e in
         let k = run-fault-code t in
         of-run (a .code) (omega (arith, k .1)) (λ y. k .2 (omega arith))
-    go a (run-no-room h g end n r k e) = let z = ap (λ (b : Answer). b .code) e in of-run (a .code) (omega arith) (λ y. omega arith)
-    go a (run-whole h g end n r k) = of-run (a .code) (omega (arith, k .code)) (λ y. omega (arith, k .code))
+    go a (no-room h g end n r k e) = let z = ap (λ (b : Answer). b .code) e in of-run (a .code) (omega arith) (λ y. omega arith)
+    go a (whole k e) = of-run (a .code) (omega (arith, k .answers .code)) (λ y. omega (arith, k .answers .code))

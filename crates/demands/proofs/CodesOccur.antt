@@ -13,7 +13,8 @@ use Rattle.reading.specs.Values.{valued, reading}
 use Rattle.reading.specs.Answer.{limit, size, rows, header-of, no-header, Answer, Fields, stored, one, tried, datagrams, run, layout-of, answered, read}
 use Rattle.demands.specs.Codes.{one-codes, run-codes, field-codes, Each, none, also}
 use Rattle.demands.proofs.Itemised.{long-refused}
-use Rattle.demands.proofs.RunItemised.{run-too-long}
+use Rattle.demands.proofs.Accepted.{one-reads}
+use Rattle.demands.proofs.RunItemised.{run-reads}
 use Rattle.demands.proofs.FieldsItemised.{fields-too-long}
 use Rattle.demands.proofs.Impostors.{bytes-of, p2}
 
@@ -55,13 +56,13 @@ store = replicate 7 165
 pub one-occur : Each (λ c. (s w : List ℕ) × (one s w .code ≡ c)) one-codes
 unfolding be4 known header-protocols follow read-item address-of run-of field fields last-number opened flows flow samples datagram-to size rows header-of no-header stored one utf8 longest-to among
 one-occur =
-    also (p2, store, refl) (also (long .0, store, ap (λ (a : Answer). a .code) (long-refused (long .0) store (long .1))) (also ([], store, refl) (also (no-version, store, refl) (also (no-address, store, refl)
+    also (p2, store, refl) (also (long .0, store, ap (λ (a : Answer). a .code) (long-refused one-reads (long .0) store (long .1))) (also ([], store, refl) (also (no-version, store, refl) (also (no-address, store, refl)
     (also (no-length, store, refl) (also (no-protocol, store, refl) (also (no-text, store, refl) (also (too-deep, store, refl) (also (p2, [], refl) none)))))))))
 
 pub run-occur : Each (λ c. (s w : List ℕ) × (run s w .code ≡ c)) run-codes
 unfolding be4 known header-protocols follow read-item address-of run-of field fields last-number opened flows flow samples datagram-to size rows header-of no-header stored tried datagrams run utf8 longest-to among
 run-occur =
-    also (p2, store, refl) (also (long .0, store, ap (λ (a : Answer). a .code) (run-too-long (long .0) store (long .1))) (also (no-version, store, refl) (also (no-address, store, refl)
+    also (p2, store, refl) (also (long .0, store, ap (λ (a : Answer). a .code) (long-refused run-reads (long .0) store (long .1))) (also (no-version, store, refl) (also (no-address, store, refl)
     (also (no-length, store, refl) (also (no-protocol, store, refl) (also (no-text, store, refl) (also (too-deep, store, refl) (also (p2, [], refl) none))))))))
 
 pub field-occur : Each (λ c. (ak af : ℕ) × (s : List ℕ) × (k f start extent : ℕ) × (read ak af s k f start extent .code ≡ c)) field-codes

@@ -14,22 +14,20 @@ use Rattle.reading.specs.Layout.{Field, any-word, segment, depth-limit, datagra
 use Rattle.reading.specs.Answer.{limit, nobody, row-words, size, room, no-header, Answer, refused, one, run, Fields, read, Listed, list-word, segment-at, payload}
 use Rattle.demands.specs.Depths.{Shallow}
 use Rattle.demands.proofs.Limit.{no-deeper, same-reading}
-use Rattle.demands.specs.Readings.{Reading, Answers, Allowed, Accepted}
-use Rattle.demands.proofs.Accepted.{one-reading, accepted-reads, reading-answers, reading-fits}
+use Rattle.demands.specs.Readings.{Reading, Allowed}
+use Rattle.demands.proofs.Accepted.{one-reading}
 use Rattle.demands.specs.DescriptorFields.{range, All-fields}
 use Rattle.demands.proofs.AcceptedFields.{one-fields, run-all-fields}
 use Rattle.demands.specs.Stops.{Stops}
 use Rattle.demands.specs.Codes.{one-codes, run-codes, field-codes, Each}
 use Rattle.demands.proofs.Codes.{one-coded, run-coded}
 use Rattle.demands.proofs.CodesOccur.{one-occur, run-occur, field-occur}
-use Rattle.demands.specs.Itemised.{Itemised}
-use Rattle.demands.proofs.Itemised.{one-itemised, fault-refused, one-fault, no-fault, room-last, eight-unseen}
+use Rattle.demands.specs.Itemised.{Subject, a-datagram, a-run, Answers, Itemised}
+use Rattle.demands.specs.Demanded.{Accepts-exactly, Answers-reading, Counts-items}
+use Rattle.demands.proofs.Itemised.{itemised, only-itemised, long-refused, fault-refused, reading-answers, one-whole, one-fault, no-fault, room-last, never-for-room, accepts-exactly, answers-reading, counts-items, accepted-only, eight-unseen}
 use Rattle.demands.specs.Owned.{firsts, firsts-before, Own, Counted, Run-counted, Fields-counted}
 use Rattle.demands.proofs.Owned.{own, own-before, one-owns, run-owns, fields-own}
-use Rattle.demands.specs.Tries.{Run, Run-stops}
-use Rattle.demands.specs.RunItemised.{Run-answers, Run-itemised, Run-accepted}
-use Rattle.demands.proofs.RunItemised.{run-itemised, run-accepts, run-answered, run-fits, run-refused, one-run, one-run-fault, no-run-fault, run-room-last}
-use Rattle.demands.proofs.RunUnseen.{run-eight-unseen}
+use Rattle.demands.specs.Tries.{Run}
 use Rattle.demands.specs.Pads.{Same-but-pads}
 use Rattle.demands.proofs.Pads.{pads-free}
 use Rattle.demands.proofs.PadFields.{pads-free-fields}
@@ -38,8 +36,8 @@ use Rattle.demands.proofs.Placed.{under-inside, together}
 use Rattle.demands.specs.FieldsItemised.{Fields-reading, Fields-itemised, Fields-read}
 use Rattle.demands.proofs.FieldsItemised.{fields-itemised, itemised-only, fields-accepted, fields-coded, fields-quartered, one-fields-reading}
 use Rattle.demands.specs.Calls.{Call, Public}
-use Rattle.demands.proofs.Calls.{kept, quartered, never-for-room, placed, too-long, whole-there, framed, payload-there}
-use Rattle.demands.proofs.Impostors.{Equals, p2, refuses-all, answers-p2, writes-nothing, own-steps, run-invents}
+use Rattle.demands.proofs.Calls.{reads, unseen, kept, quartered, placed, whole-there, framed, payload-there}
+use Rattle.demands.proofs.Impostors.{p2, refuses-all, answers-p2, writes-nothing, own-steps, run-invents}
 use Rattle.demands.specs.Frames.{Frame-at, Frame}
 use Rattle.demands.specs.Parts.{Stands-at, Payload-is, Listed-is, Segment-itemised, First-of-segments}
 use Rattle.demands.proofs.Parts.{payload-is, payload-only, opaque-payload, listed-is, listed-only, words-present, segment-is, segment-only, first-segment}
@@ -47,8 +45,27 @@ use Rattle.demands.specs.Abnf.{UTF8-char, UTF8-octets}
 use Rattle.demands.proofs.Characters.{test-by-rules, rules-by-test}
 use Rattle.demands.proofs.IllFormed.{well-before, none-longer, no-char-there}
 
--- ==== of both calls, for every input and every store
-module _ {c : Call} (p : Public c) (s w : List ℕ) where
+-- ==== of both calls: of `decode` the subject t is one datagram, of `decode_run` it is a run of them
+module _ {t : Subject} {c : Call} (p : Public t c) where
+  -- ---- demands 2 and 3 (`Demanded`; proved in `Itemised`, of `decode` by `Accepted`, of `decode_run` by `Tried` and `RunItemised`): within the limit and
+  -- with a store for a quarter of the length, code 0 exactly where the grammar reads the input
+  pub accepted-exactly : Accepts-exactly t c
+  accepted-exactly = accepts-exactly (reads p)
+
+  -- the answer with code 0 is that reading's
+  pub accepted-is-read : Answers-reading t c
+  accepted-is-read = answers-reading (reads p)
+
+  -- the steps are its items, up to where it stopped
+  pub steps-are-items : Counts-items t c
+  steps-are-items = counts-items (reads p)
+
+  -- and whatever meets these two answers what it accepts as the call does
+  pub accepted-alike : (f : Call) → Answers-reading t f → Counts-items t f → (s w : List ℕ) → f s w .code ≡ 0 → f s w ≡ c s w
+  accepted-alike f = accepted-only (reads p)
+
+-- for every input and every store
+module _ {t : Subject} {c : Call} (p : Public t c) (s w : List ℕ) where
   -- ---- demand 1 (`Kept`): a refusal leaves every store word, shows a header of zeros, and needs no descriptors but for want of room
   pub refusal-keeps : (c s w .code ≡ 0 → ⊥) → c s w .store ≡ w
   refusal-keeps = kept p s w .refused-store
@@ -75,7 +92,7 @@ module _ {c : Call} (p : Public c) (s w : List ℕ) where
 
   -- so a store for a quarter of the length, rounded down, is never refused for room
   pub quarter-suffices : length s / 4 ≤ room w → c s w .code ≡ 9 → ⊥
-  quarter-suffices = never-for-room p s w
+  quarter-suffices = never-for-room (reads p) s w
 
   -- ---- demand 3, nesting (`Placed`, `Siblings`, `Nested`): in an accepted input a datagram's descriptor has no parent, and any other lies inside its
   -- parent, which stands before it
@@ -141,41 +158,53 @@ module _ {c : Call} (p : Public c) (s w : List ℕ) where
   pub payload-of-frame : c s w .code ≡ 0 → (i : ℕ) (f : Frame-at s (range (c s w .store) i)) → payload s (range (c s w .store) i .span .start) (range (c s w .store) i .span .count) ≡ f .payload
   payload-of-frame = payload-there p s w
 
+  -- ---- the answer (`Itemised`) is one of four, too long, stopped after so many items with why the next is none, read whole without room, or accepted; and
+  -- no other answer is one of them
+  pub answered-exactly : (a : Answer) → (a ≡ c s w) ↔ Itemised t s w a
+  answered-exactly a = (λ e. subst (Itemised t s w) (sym e) (itemised (reads p) s w), only-itemised (reads p) s w)
+
+  -- a reading that the store has room for is answered; there is one
+  pub read-is-accepted : {x : t .Finding} {end n : ℕ} → length s ≤ limit → t .Whole s x end n → size (t .ranges x) ≤ room w → Answers t w x end (c s w) × (c s w .steps ≡ n)
+  read-is-accepted = reading-answers (reads p) s w
+
+  pub no-second-reading : {x y : t .Finding} {end last n m : ℕ} → t .Whole s x end n → t .Whole s y last m → (x ≡ y) × (end ≡ last) × (n ≡ m)
+  no-second-reading = one-whole (reads p) s
+
   -- ---- the first fault: code 1 comes before all
   pub too-long-first : limit < length s → c s w ≡ refused 1 0 0 0 w
-  too-long-first = too-long p s w
+  too-long-first = long-refused (reads p) s w
+
+  -- then the first fault; there is one, and none where there is a reading
+  pub first-fault-answered : {k i n : ℕ} → length s ≤ limit → t .Stopped s k i n → c s w ≡ refused k i n 0 w
+  first-fault-answered = fault-refused (reads p) s w
+
+  pub first-fault-only : {k i n l j m : ℕ} → t .Stopped s k i n → t .Stopped s l j m → (k ≡ l) × (i ≡ j) × (n ≡ m)
+  first-fault-only = one-fault (reads p) s
+
+  pub fault-or-reading : {k i n end m : ℕ} {x : t .Finding} → t .Stopped s k i n → t .Whole s x end m → ⊥
+  fault-or-reading = no-fault (reads p) s
+
+  -- code 9 comes after all: only where there is a whole reading, for which the store has no room; steps and needed are that reading's
+  pub no-room-last : c s w .code ≡ 9
+      → (x : t .Finding) × (end n : ℕ) × t .Whole s x end n × (room w < size (t .ranges x)) × (c s w ≡ refused 9 0 n (size (t .ranges x)) w)
+  no-room-last = room-last (reads p) s w
+
+  -- code 8 precedes any look at that record's bytes (`Unseen`): an input that is as long, and alike before that position, is answered alike
+  pub record-not-looked-at : (u : List ℕ) → c s w .code ≡ 8 → length u ≡ length s → take (c s w .at) u ≡ take (c s w .at) s → c u w ≡ c s w
+  record-not-looked-at u = eight-unseen (reads p) (unseen p) s u w
 
 -- ==== one datagram
 module _ (s w : List ℕ) where
-  -- ---- demand 2 (`Accepted`): code 0 only where the grammar reads s, with no record deeper than 8; the answer is that reading's
-  pub accepted-is-read : one s w .code ≡ 0 → Accepted s w (one s w)
-  accepted-is-read = accepted-reads s w
-
-  -- and wherever it does, if the store has room
-  pub read-is-accepted : length s ≤ limit → {f : Found} {bytes items : ℕ} → Allowed s f bytes items → size (f .ranges) ≤ room w → Answers w f bytes items (one s w)
-  read-is-accepted = reading-answers s w
-
-  -- no input has two readings, however deep
+  -- ---- demand 2 (`Limit`): no input has two readings, however deep
   pub only-reading : {f g : Found} {n m k l : ℕ} → Reading s f n k → Reading s g m l → (f ≡ g) × (n ≡ m) × (k ≡ l)
   only-reading = one-reading s
-
-  -- as one equivalence, with a store for a quarter of the length
-  pub accepted-exactly : length s ≤ limit → length s / 4 ≤ room w
-      → (one s w .code ≡ 0) ↔ ((f : Found) × (bytes items : ℕ) × Allowed s f bytes items)
-  accepted-exactly short wide =
-      (λ z. let a = accepted-reads s w z in (a .found, a .bytes, a .items, a .allowed), λ (f, bytes, items, r). reading-answers s w short r (reading-fits s w short r wide) .code)
 
   -- the fields of each descriptor that is read here (`Fielded`): field reading gives the values that the grammar reads at the start of its range, with
   -- which it reads, behind them, what this reading has inside the range
   pub fields-are-read : one s w .code ≡ 0 → {f : Found} {bytes items : ℕ} → Allowed s f bytes items → All-fields s (f .ranges) (one s w .store)
   fields-are-read = one-fields s w
 
-  -- ---- demand 3, steps are items (`Itemised`, by `Stops`): every answer is one of four, too long, stopped after so many items with why the next
-  -- is none, read whole without room, or accepted
-  pub steps-are-items : Itemised s w (one s w)
-  steps-are-items = one-itemised s w
-
-  -- and each of these items owns four bytes that no other owns (`Owned`): there are as many as steps, and the four bytes from the first of each on are
+  -- ---- demand 3 (`Owned`): each item that is a step owns four bytes that no other owns; there are as many as steps, and the four bytes from the first of each on are
   -- apart, and in the input
   pub steps-own-bytes : (at : List ℕ) × Counted s at × Own 0 (length s) (one s w .steps) at
   steps-own-bytes = one-owns s w
@@ -183,24 +212,6 @@ module _ (s w : List ℕ) where
   -- ---- the code is one of document 01's table (`Codes`)
   pub code-is-listed : known one-codes (one s w .code) ≡ true
   code-is-listed = one-coded s w
-
-  -- ---- the first fault is answered; there is one, and none where there is a reading
-  pub first-fault-answered : {c i n : ℕ} → length s ≤ limit → Stops datagram 0 s c i n → one s w ≡ refused c i n 0 w
-  first-fault-answered = fault-refused s w
-
-  pub first-fault-only : {c i n d j m : ℕ} → Stops datagram 0 s c i n → Stops datagram 0 s d j m → (c ≡ d) × (i ≡ j) × (n ≡ m)
-  first-fault-only = one-fault s w
-
-  pub fault-or-reading : {c i n bytes items : ℕ} {f : Found} → Stops datagram 0 s c i n → Allowed s f bytes items → ⊥
-  fault-or-reading = no-fault s w
-
-  -- code 9 comes after all: only where there is a whole reading, for which the store has no room; steps and needed are that reading's
-  pub no-room-last : one s w .code ≡ 9 → (f : Found) × (bytes items : ℕ) × Allowed s f bytes items × (room w < size (f .ranges)) × (one s w ≡ refused 9 0 items (size (f .ranges)) w)
-  no-room-last = room-last s w
-
-  -- code 8 precedes any look at that record's bytes (`Unseen`): an input that is as long, and alike before that position, is answered alike
-  pub record-not-looked-at : (t : List ℕ) → one s w .code ≡ 8 → length t ≡ length s → take (one s w .at) t ≡ take (one s w .at) s → one t w ≡ one s w
-  record-not-looked-at t = eight-unseen s t w
 
   -- ---- bytes that do not matter (`Pads`): an input that has each byte of s before its end that is in no pad of an opaque or a string in its reading
   -- is answered as s is, whatever stands in the pads and behind the end, and however long that is
@@ -213,50 +224,17 @@ module _ (s w : List ℕ) where
       read ak af t (d .kind) (d .format) (d .span .start) (d .span .count) ≡ read ak af s (d .kind) (d .format) (d .span .start) (d .span .count)
   pads-do-not-matter-to-fields t = pads-free-fields s t w
 
--- ==== a run (`Tries` says what a run is by the grammar; `Tried` and `RunItemised` that it is answered)
+-- ==== a run (`Tries` says what a run is by the grammar)
 module _ (s w : List ℕ) where
-  -- ---- demand 2: code 0 only where datagrams are read one after another, and then the input ends, or one stops with code 2
-  pub run-accepted-is-read : run s w .code ≡ 0 → Run-accepted s w (run s w)
-  run-accepted-is-read = run-accepts s w
-
-  pub run-read-is-accepted : {g : Forest} {end n : ℕ} → length s ≤ limit → Run s 0 g end n → size g ≤ room w → Run-answers w g end n (run s w)
-  run-read-is-accepted = run-answered s w
-
-  pub only-run : {g h : Forest} {end n last m : ℕ} → Run s 0 g end n → Run s 0 h last m → (g ≡ h) × (end ≡ last) × (n ≡ m)
-  only-run = one-run s w
-
-  pub run-accepted-exactly : length s ≤ limit → length s / 4 ≤ room w → (run s w .code ≡ 0) ↔ ((g : Forest) × (end n : ℕ) × Run s 0 g end n)
-  run-accepted-exactly short wide = (λ z. let a = run-accepts s w z in (a .ranges, a .end, a .items, a .is), λ (g, e, n, t). run-answered s w short t (run-fits s w t wide) .code)
-
   pub run-fields-are-read : run s w .code ≡ 0 → {g : Forest} {end n : ℕ} → Run s 0 g end n → All-fields s g (run s w .store)
   run-fields-are-read = run-all-fields s w
-
-  -- ---- demand 3: the steps are the items of every datagram tried
-  pub run-steps-are-items : Run-itemised s w (run s w)
-  run-steps-are-items = run-itemised s w
 
   pub run-steps-own-bytes : (at : List ℕ) × Run-counted s at × Own 0 (length s) (run s w .steps) at
   run-steps-own-bytes = run-owns s w
 
-  -- ---- the code is one of document 01's table, and never 2 (`Codes`)
+  -- the code is one of document 01's table, and never 2 (`Codes`)
   pub run-code-is-listed : known run-codes (run s w .code) ≡ true
   run-code-is-listed = run-coded s w
-
-  -- ---- the first fault is answered; there is one, and none where there is a run
-  pub run-first-fault-answered : {c i n : ℕ} → length s ≤ limit → Run-stops s 0 c i n → run s w ≡ refused c i n 0 w
-  run-first-fault-answered = run-refused s w
-
-  pub run-first-fault-only : {c i n d j m : ℕ} → Run-stops s 0 c i n → Run-stops s 0 d j m → (c ≡ d) × (i ≡ j) × (n ≡ m)
-  run-first-fault-only = one-run-fault s w
-
-  pub fault-or-run : {c i n end m : ℕ} {g : Forest} → Run-stops s 0 c i n → Run s 0 g end m → ⊥
-  fault-or-run = no-run-fault s w
-
-  pub run-no-room-last : run s w .code ≡ 9 → (g : Forest) × (end n : ℕ) × Run s 0 g end n × (room w < size g) × (run s w ≡ refused 9 0 n (size g) w)
-  run-no-room-last = run-room-last s w
-
-  pub run-record-not-looked-at : (t : List ℕ) → run s w .code ≡ 8 → length t ≡ length s → take (run s w .at) t ≡ take (run s w .at) s → run t w ≡ run s w
-  run-record-not-looked-at t = run-eight-unseen s t w
 
 -- ==== field reading (`FieldsItemised`), of a descriptor of this kind, format and range that is asked for the fields of another kind and format
 module _ (ak af : ℕ) (s : List ℕ) (k f start extent : ℕ) where
@@ -347,21 +325,25 @@ module _ {x : List ℕ} {n : ℕ} (l : Longest x n) where
   pub ill-formed-there : (u v : List ℕ) → drop n x ≡ u ++ v → UTF8-char u → ⊥
   ill-formed-there = no-char-there l
 
--- ==== the impostors (`Impostors`): a call that answers what the definitions say does none of these
+-- ==== the impostors (`Impostors`): each falls to the demand that document 01 names for it, whatever else it does
 module _ (f : Call) where
-  pub not-refuses-all : Equals f one → ((s w : List ℕ) → f s w .code ≡ 0 → ⊥) → ⊥
-  not-refuses-all e h = refuses-all f h e
+  -- "exactly when" shuts out a decoder that refuses all, and one that answers P2 always
+  pub not-refuses-all : Accepts-exactly a-datagram f → ((s w : List ℕ) → f s w .code ≡ 0 → ⊥) → ⊥
+  not-refuses-all = refuses-all f
 
-  pub not-answers-p2 : Equals f one → ((s w : List ℕ) → f s w ≡ one p2 w) → ⊥
-  not-answers-p2 e h = answers-p2 f h e
+  pub not-answers-p2 : Accepts-exactly a-datagram f → ((s w : List ℕ) → f s w ≡ f p2 w) → ⊥
+  not-answers-p2 = answers-p2 f
 
-  pub not-writes-nothing : Equals f one → ((s w : List ℕ) → f s w .store ≡ w) → ⊥
-  not-writes-nothing e h = writes-nothing f h e
+  -- "descriptors are that reading" shuts out one that accepts just so, and writes no descriptor
+  pub not-writes-nothing : Accepts-exactly a-datagram f → Answers-reading a-datagram f → ((s w : List ℕ) → f s w .store ≡ w) → ⊥
+  not-writes-nothing = writes-nothing f
 
-  -- no step count that is made of the input's length, the code, the position and the descriptors
-  pub not-own-steps : Equals f one → (g : ℕ → ℕ → ℕ → ℕ → ℕ) → ((s w : List ℕ) → f s w .steps ≡ g (length s) (f s w .code) (f s w .at) (f s w .needed)) → ⊥
-  not-own-steps e g h = own-steps f g h e
+  -- the items of the reading shut out one that meets demand 2, and makes its step count of the input's length, the code, the position and the descriptors
+  pub not-own-steps : Accepts-exactly a-datagram f → Answers-reading a-datagram f → Counts-items a-datagram f
+      → (g : ℕ → ℕ → ℕ → ℕ → ℕ) → ((s w : List ℕ) → f s w .steps ≡ g (length s) (f s w .code) (f s w .at) (f s w .needed)) → ⊥
+  not-own-steps = own-steps f
 
-  -- no run that is made of its first datagram's answer and the input's length
-  pub not-run-invents : Equals f run → (g : Answer → ℕ → List ℕ → Answer) → ((s w : List ℕ) → f s w ≡ g (one s w) (length s) w) → ⊥
-  not-run-invents e g h = run-invents f g h e
+  -- "exactly when", of a run, shuts out one that is made of its first datagram's answer, by a call d that meets the demands, and the input's length
+  pub not-run-invents : Accepts-exactly a-run f → (d : Call) → Accepts-exactly a-datagram d → Answers-reading a-datagram d → Counts-items a-datagram d
+      → (g : Answer → ℕ → List ℕ → Answer) → ((s w : List ℕ) → f s w ≡ g (d s w) (length s) w) → ⊥
+  not-run-invents = run-invents f

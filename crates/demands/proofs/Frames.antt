@@ -19,8 +19,9 @@ use Rattle.demands.specs.Frames.{Frame-at, Frame, Frames, none, also}
 use Rattle.demands.specs.Tries.{Run, over, next, cut}
 use Rattle.demands.proofs.Fielded.{range-is}
 use Rattle.demands.proofs.Parts.{opaque-payload}
-use Rattle.demands.proofs.Accepted.{accepted-reads}
-use Rattle.demands.proofs.RunItemised.{run-accepts}
+use Rattle.demands.proofs.Itemised.{accepted-reads}
+use Rattle.demands.proofs.Accepted.{one-reads}
+use Rattle.demands.proofs.RunItemised.{run-reads}
 
 -- ---- bytes that stand somewhere, in two parts
 module _ {s u : List ℕ} {o : ℕ} (x y : List ℕ) (e : u ≡ x ++ y) (h : Stands-at s o u) where
@@ -184,13 +185,13 @@ in-store s g rest h i l = subst (Frame s) (range-is (rows 0 nobody g ++ rest) i)
 module _ (s w : List ℕ) where
   pub one-frames : one s w .code ≡ 0 → (i : ℕ) → i < one s w .needed → Frame s (range (one s w .store) i)
   one-frames z i l =
-      let a = accepted-reads s w z in
-      let r = a .allowed .reading in
+      let a = accepted-reads one-reads s w z in
+      let r = a .reading .reading in
       subst (λ (t : List ℕ). Frame s (range t i)) (sym (a .answers .store))
       (in-store s (a .found .ranges) (drop (row-words * size (a .found .ranges)) w)
       (good-datagram (r .levels) 0 (r .read) (a .found) (a .items) (r .is) s (record { before = []; after = r .rest; joined = r .joined; long = refl })) i (rw (a .answers .needed) at l))
 
   pub run-frames : run s w .code ≡ 0 → (i : ℕ) → i < run s w .needed → Frame s (range (run s w .store) i)
   run-frames z i l =
-      let a = run-accepts s w z in
-      subst (λ (t : List ℕ). Frame s (range t i)) (sym (a .answers .store)) (in-store s (a .ranges) (drop (row-words * size (a .ranges)) w) (good-run-of s (a .is)) i (rw (a .answers .needed) at l))
+      let a = accepted-reads run-reads s w z in
+      subst (λ (t : List ℕ). Frame s (range t i)) (sym (a .answers .store)) (in-store s (a .found) (drop (row-words * size (a .found)) w) (good-run-of s (a .reading)) i (rw (a .answers .needed) at l))

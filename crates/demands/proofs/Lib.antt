@@ -7,7 +7,6 @@ pub mod Ordered
 pub mod Placed
 pub mod Depths
 pub mod Limit
-pub mod Accepted
 pub mod Fielded
 pub mod Opened
 pub mod Pieces
@@ -16,13 +15,13 @@ pub mod Stopped
 pub mod Stopping
 pub mod Halting
 pub mod Itemised
+pub mod Accepted
 pub mod Tried
 pub mod RunItemised
 pub mod Unseen
 pub mod Codes
 pub mod FieldsItemised
 pub mod Parts
-pub mod RunUnseen
 pub mod AcceptedFields
 pub mod Pads
 pub mod PadFields

@@ -13,12 +13,12 @@ use Rattle.reading.specs.Answer.{Answer, one, run, layout-of, Fields, read}
 use Rattle.demands.specs.Stops.{Stops, barred, standing, no-item, not-text, past-item, no-opaque, inside-it, past-it, among, past-all}
 use Rattle.demands.specs.Readings.{Allowed}
 use Rattle.demands.specs.Tries.{Datagram-at, Run, over, next, cut, Run-stops, this, later}
-use Rattle.demands.specs.Itemised.{Itemised, too-long as long-one, faulty as faulty-one, no-room as no-room-one, whole as whole-one}
-use Rattle.demands.specs.RunItemised.{Run-itemised, too-long as long-run, faulty as faulty-run, no-room as no-room-run, whole as whole-run}
+use Rattle.demands.specs.Itemised.{a-datagram, a-run, Itemised, too-long as refused-long, faulty as refused-there, no-room as refused-last, whole as accepted}
 use Rattle.demands.specs.FieldsItemised.{only-values, read-whole, stopped-at, Fields-itemised, too-long as long-fields, passes, other, held}
 use Rattle.demands.specs.Owned.{firsts-of-many, firsts, firsts-before, run-firsts, run-firsts-before, Apart, none, and, Own, Counted, too-long, faulty, whole, Run-counted, too-long as run-long, faulty as run-faulty, whole as run-whole, Fields-counted, not-read, faulty as fields-faulty, whole as fields-whole}
-use Rattle.demands.proofs.Itemised.{one-itemised}
-use Rattle.demands.proofs.RunItemised.{run-itemised}
+use Rattle.demands.proofs.Itemised.{itemised}
+use Rattle.demands.proofs.Accepted.{one-reads}
+use Rattle.demands.proofs.RunItemised.{run-reads}
 use Rattle.demands.proofs.FieldsItemised.{fields-itemised}
 
 -- ---- positions
@@ -168,22 +168,22 @@ module _ (s w : List ℕ) where
       widen (length s) (omega (arith, simp length-append at z)) (own (datagram-to (d .levels)) 0 (d .read) f items (d .is))
 
   pub one-owns : (at : List ℕ) × Counted s at × Own 0 (length s) (one s w .steps) at
-  one-owns = go (one s w) (one-itemised s w)
+  one-owns = go (one s w) (itemised one-reads s w)
     where
-      go : (a : Answer) → Itemised s w a → (at : List ℕ) × Counted s at × Own 0 (length s) (a .steps) at
-      go a (long-one h e) = ([], too-long h, no-more (omega arith) (ap (λ (b : Answer). b .steps) e))
-      go a (faulty-one h c i n t e) = (firsts-before t, faulty t, as-many (ap (λ (b : Answer). b .steps) e) (widen (length s) (omega arith) (own-before t)))
-      go a (no-room-one h f bytes items r k e) = (_, whole r, as-many (ap (λ (b : Answer). b .steps) e) (own-reading r))
-      go a (whole-one h f bytes items r k) = (_, whole r, as-many (k .steps) (own-reading r))
+      go : (a : Answer) → Itemised a-datagram s w a → (at : List ℕ) × Counted s at × Own 0 (length s) (a .steps) at
+      go a (refused-long h e) = ([], too-long h, no-more (omega arith) (ap (λ (b : Answer). b .steps) e))
+      go a (refused-there h c i n t e) = (firsts-before t, faulty t, as-many (ap (λ (b : Answer). b .steps) e) (widen (length s) (omega arith) (own-before t)))
+      go a (refused-last h f bytes items r k e) = (_, whole r, as-many (ap (λ (b : Answer). b .steps) e) (own-reading r))
+      go a (accepted k e) = (_, whole (k .reading), as-many e (own-reading (k .reading)))
 
   pub run-owns : (at : List ℕ) × Run-counted s at × Own 0 (length s) (run s w .steps) at
-  run-owns = go (run s w) (run-itemised s w)
+  run-owns = go (run s w) (itemised run-reads s w)
     where
-      go : (a : Answer) → Run-itemised s w a → (at : List ℕ) × Run-counted s at × Own 0 (length s) (a .steps) at
-      go a (long-run h e) = ([], run-long h, no-more (omega arith) (ap (λ (b : Answer). b .steps) e))
-      go a (faulty-run h c i n t e) = (run-firsts-before t, run-faulty t, as-many (ap (λ (b : Answer). b .steps) e) (own-run-before s t))
-      go a (no-room-run h g end n t k e) = (run-firsts t, run-whole t, as-many (ap (λ (b : Answer). b .steps) e) (own-run s t))
-      go a (whole-run h g end n t k) = (run-firsts t, run-whole t, as-many (k .steps) (own-run s t))
+      go : (a : Answer) → Itemised a-run s w a → (at : List ℕ) × Run-counted s at × Own 0 (length s) (a .steps) at
+      go a (refused-long h e) = ([], run-long h, no-more (omega arith) (ap (λ (b : Answer). b .steps) e))
+      go a (refused-there h c i n t e) = (run-firsts-before t, run-faulty t, as-many (ap (λ (b : Answer). b .steps) e) (own-run-before s t))
+      go a (refused-last h g end n t k e) = (run-firsts t, run-whole t, as-many (ap (λ (b : Answer). b .steps) e) (own-run s t))
+      go a (accepted k e) = (_, run-whole (k .reading), as-many e (own-run s (k .reading)))
 
 module _ (ak af : ℕ) (s : List ℕ) (k f start extent : ℕ) where
   pub fields-own : (at : List ℕ) × Fields-counted ak af s k f start extent at × Own start (start + extent) (read ak af s k f start extent .steps) at

@@ -21,9 +21,9 @@ use Rattle.reading.proofs.Counts.{repeat-is}
 use Rattle.reading.proofs.Room.{last-place}
 use Rattle.reading.specs.Layout.{depth-limit, datagram}
 use Rattle.reading.specs.Answer.{limit, from, one}
-use Rattle.demands.specs.Readings.{Accepted}
-use Rattle.demands.proofs.Accepted.{given, accepted-reads}
-use Rattle.demands.proofs.AcceptedFields.{within-limit}
+use Rattle.demands.specs.Itemised.{a-datagram, Accepted}
+use Rattle.demands.proofs.Itemised.{accepted-reads}
+use Rattle.demands.proofs.Accepted.{given, one-reads}
 use Rattle.demands.specs.Pads.{Given, Behind, Item-pad, Times-pad, Pad, Same-but-pads}
 
 -- a script goes forward, and stays inside
@@ -495,10 +495,10 @@ again (repeat n body k) s t p a q b =
 
 module _ (s t w : List ℕ) where
   -- the reading of an accepted input, and an input that is the same but for its pads
-  pub accepted-alike : (a : Accepted s w (one s w)) → Same-but-pads s t (one s w .at) → Alike datagram s t (from 0) (a .found) (place (a .bytes) (a .items))
+  pub accepted-alike : (a : Accepted a-datagram s w (one s w)) → Same-but-pads s t (one s w .at) → Alike datagram s t (from 0) (a .found) (place (a .end) (a .items))
   accepted-alike a b =
-      let n : one s w .at ≡ a .bytes = a .answers .at in
-      record { fits = omega arith; reads = given depth-limit s (a .allowed .reading) (a .allowed .shallow); room = rw n at (b .long); alike = λ i o. b .alike i (rw n (o .1)) }
+      let n : one s w .at ≡ a .end = a .answers .at in
+      record { fits = omega arith; reads = given depth-limit s (a .reading .reading) (a .reading .shallow); room = rw n at (b .long); alike = λ i o. b .alike i (rw n (o .1)) }
 
   -- two inputs within the limit that are read alike are answered alike
   alike-answered : length s ≤ limit → length t ≤ limit → follow datagram t (from 0) ≡ follow datagram s (from 0) → one t w ≡ one s w
@@ -508,6 +508,6 @@ module _ (s t w : List ℕ) where
   pub pads-free : one s w .code ≡ 0 → length t ≤ limit → Same-but-pads s t (one s w .at) → one t w ≡ one s w
   unfolding one
   pads-free z k b =
-      let a = accepted-reads s w z in
+      let a = accepted-reads one-reads s w z in
       let c = accepted-alike a b in
-      alike-answered (within-limit s w _ z) k (again datagram s t (from 0) (a .found) (place (a .bytes) (a .items)) c ∙ sym (c .reads))
+      alike-answered (a .short) k (again datagram s t (from 0) (a .found) (place (a .end) (a .items)) c ∙ sym (c .reads))

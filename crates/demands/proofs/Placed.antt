@@ -147,10 +147,10 @@ module _ (s w : List ℕ) where
   unfolding one
   one-placed =
       within-limit _ (stored-placed header-of (follow datagram s (from 0)) (sure-datagram s (from 0))
-      (λ a q e. later (length s) (datagram-on depth-limit s (from 0) (omega arith) e .1) (datagram-nested depth-limit s (from 0) a q (omega arith) e)) (one-size s w))
+      (λ a q e. later (length s) (datagram-on depth-limit s (from 0) (omega arith) e .1) (datagram-nested depth-limit s (from 0) a q (omega arith) e)) (one-size s))
 
   pub run-placed : Placed s (run s w)
   unfolding run
   run-placed =
       within-limit _ (stored-placed (λ _. no-header) (datagrams (length s) s (from 0)) (sure-run (length s) s (from 0))
-      (λ a q e. later (length s) (thrifty-datagrams s (length s) (from 0) (omega arith) e .1) (run-nested (length s) s (from 0) a q (omega arith) e)) (run-size s w))
+      (λ a q e. later (length s) (thrifty-datagrams s (length s) (from 0) (omega arith) e .1) (run-nested (length s) s (from 0) a q (omega arith) e)) (run-size s))

@@ -1,10 +1,9 @@
--- Demand 3's bounds, accepted or refused: four bytes for each step and for each descriptor needed, so a store for a quarter of the
--- input is never refused for room. For one datagram, and for a run over its sums. Assumes nothing.
-use Prim.Native.Nat.{ℕ, zero, suc, _+_, _*_, _/_, _≤_}
+-- Demand 3's bounds, accepted or refused: four bytes for each step and for each descriptor needed. For one datagram, and for a run over its sums.
+-- Assumes nothing.
+use Prim.Native.Nat.{ℕ, zero, suc, _+_, _*_, _≤_}
 use mathlib.Core.Path.{_≡_, refl}
 use mathlib.Core.List.{List}
 use native.Mathlib.Omega.{arith}
-use borrow.Author.Tests.{le-leb}
 use lib.Dec.{eqb, leb}
 use lib.ListN.{length}
 use Rattle.reading.specs.Script.{Value, _⊕_, Found}
@@ -15,8 +14,6 @@ use Rattle.reading.proofs.Items.{either}
 use Rattle.reading.proofs.Bounds.{Owes, owes}
 use Rattle.reading.proofs.Room.{thrifty-datagram}
 use Rattle.reading.proofs.Runs.{run-from, thrifty-run}
-use Rattle.reading.proofs.Faults.{Sure, fine, fault}
-use Rattle.reading.proofs.Codes.{sure-datagram, sure-run}
 
 -- ---- the steps of a run
 
@@ -62,19 +59,10 @@ module _ (s w : List ℕ) (head : List Value → Header) where
       either (Quartered s) (leb (size (a .ranges)) (room w)) (record { steps = omega arith; needed = n }) (record { steps = omega arith; needed = n })
   stored-quartered (stop c a n) (halted _ k) h = record { steps = omega arith; needed = omega arith }
 
-  -- code 9 is given for want of room alone
-  stored-room : (o : Out Found) → Sure o → ((a : Found) (q : Place) → o ≡ got a q → 4 * size (a .ranges) ≤ length s) → length s / 4 ≤ room w → stored head o w .code ≡ 9 → ⊥
-  unfolding stored
-  stored-room (got a q) fine h r e =
-      let n = h a q refl in
-      let z : _≡_ {A = ℕ} 0 9 = rw (le-leb (size (a .ranges)) (room w) (omega arith)) at e in
-      omega arith
-  stored-room (stop c a n) (fault z) h r e = omega arith
-
 beyond : (s w : List ℕ) (x : Answer) → Quartered s x → Quartered s (limited s x (refused 1 0 0 0 w))
 beyond s w x h = either (Quartered s) (leb (length s) limit) h (record { steps = omega arith; needed = omega arith })
 
-module _ (s w : List ℕ) where
+module _ (s : List ℕ) where
   pub one-size : (a : Found) (q : Place) → follow datagram s (from 0) ≡ got a q → 4 * size (a .ranges) ≤ length s
   unfolding Owes
   one-size a q e = let t = thrifty-datagram depth-limit s (from 0) a q (omega arith) e in let o = rw e at (owes datagram s (from 0) (omega arith)) in omega (arith, t, o .1)
@@ -83,21 +71,11 @@ module _ (s w : List ℕ) where
   unfolding run-from
   run-size a q e = let t = thrifty-run s 0 (omega arith) e in omega (arith, t .0, t .1)
 
+module _ (s w : List ℕ) where
   pub one-quartered : Quartered s (one s w)
   unfolding one
-  one-quartered = beyond s w _ (stored-quartered s w header-of (follow datagram s (from 0)) (paid-datagram s (from 0) (omega arith)) one-size)
+  one-quartered = beyond s w _ (stored-quartered s w header-of (follow datagram s (from 0)) (paid-datagram s (from 0) (omega arith)) (one-size s))
 
   pub run-quartered : Quartered s (run s w)
   unfolding run
-  run-quartered = beyond s w _ (stored-quartered s w (λ _. no-header) (datagrams (length s) s (from 0)) (paid-run (length s) s (from 0) (omega arith)) run-size)
-
-  room-beyond : (x : Answer) → (x .code ≡ 9 → ⊥) → limited s x (refused 1 0 0 0 w) .code ≡ 9 → ⊥
-  room-beyond x h = either (λ (a : Answer). a .code ≡ 9 → ⊥) (leb (length s) limit) h (λ e. omega arith)
-
-  pub one-room : length s / 4 ≤ room w → one s w .code ≡ 9 → ⊥
-  unfolding one
-  one-room r = room-beyond _ (stored-room s w header-of (follow datagram s (from 0)) (sure-datagram s (from 0)) one-size r)
-
-  pub run-room : length s / 4 ≤ room w → run s w .code ≡ 9 → ⊥
-  unfolding run
-  run-room r = room-beyond _ (stored-room s w (λ _. no-header) (datagrams (length s) s (from 0)) (sure-run (length s) s (from 0)) run-size r)
+  run-quartered = beyond s w _ (stored-quartered s w (λ _. no-header) (datagrams (length s) s (from 0)) (paid-run (length s) s (from 0) (omega arith)) (run-size s))

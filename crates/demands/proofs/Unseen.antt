@@ -1,5 +1,5 @@
--- Code 8 precedes any look at the record's bytes: whatever stands from that position on, the answer is the same. By induction on where a reading stops.
--- Assumes nothing.
+-- Code 8 precedes any look at the record's bytes: whatever stands from that position on, the fault is the same. By induction on where a reading stops, or a
+-- run. Assumes nothing.
 use Prim.Native.Nat.{ℕ, _+_, _-_, _≤_}
 use mathlib.Core.Path.{_≡_, refl, sym, ap, _∙_}
 use mathlib.Core.Bool.{true}
@@ -8,12 +8,13 @@ use native.Mathlib.Omega.{arith}
 use native.Mathlib.Nat.{sub-zero}
 use lib.ListN.{length, take, drop, length-append, length-drop, take-append-drop}
 use lib.Seq.{length-take-le, take-take, take-at, drop-at, take-append-le}
-use Rattle.reading.specs.Script.{Item, Script}
+use Rattle.reading.specs.Script.{Found, Item, Script}
 use Rattle.reading.specs.Layout.{datagram}
 use Rattle.reading.proofs.Stands.{drop-take}
 use Rattle.reading.proofs.Faults.{fair-item, test-code, Coded, refuses, stands, reads, opens, repeats}
 use Rattle.reading.proofs.Codes.{coded-datagram}
 use Rattle.demands.specs.Stops.{No-opaque, no-length, too-long, cut, Opens, No-item, no-word, no-tested, failed, no-long, no-int, no-block, no-part, no-string, Stops, barred, standing, no-item, not-text, past-item, no-opaque, inside-it, past-it, among, past-all}
+use Rattle.demands.specs.Tries.{Datagram-at, Run-stops, this, later}
 
 -- a reading stops no sooner than it starts, and no later than what encloses it ends
 pub spans : {sc : Script} {o c a n : ℕ} {b : List ℕ} → Stops sc o b c a n → (o ≤ a) × (a ≤ o + length b)
@@ -136,5 +137,43 @@ unseen (repeats i k) (past-all x y g m l e f many t) z d h =
     let p = spans t .0 in
     past-all x (drop (length x) d) g m l (same-front h x y e p) f many (unseen (k g) t z (drop (length x) d) (same-back h x y e p))
 
-pub record-unseen : {s : List ℕ} {i n : ℕ} → Stops datagram 0 s 8 i n → (t : List ℕ) → length t ≡ length s → take i t ≡ take i s → Stops datagram 0 t 8 i n
-record-unseen {s} {i} h t l e = unseen (coded-datagram) h refl t (record { long = l; alike = rw sub-zero e })
+pub record-unseen : (s t : List ℕ) (i n : ℕ) → Stops datagram 0 s 8 i n → length t ≡ length s → take i t ≡ take i s → Stops datagram 0 t 8 i n
+record-unseen s t i n h l e = unseen coded-datagram h refl t (record { long = l; alike = rw sub-zero e })
+
+-- ---- and so does a run
+
+-- a run stops no sooner than it starts
+run-spans : {s : List ℕ} {at c i n : ℕ} → Run-stops s at c i n → at ≤ i
+run-spans (this l t z) = spans t .0
+run-spans (later f bytes items m d e t) = let r = run-spans t in omega (arith, r)
+
+-- two inputs that are as long, and alike before i
+module _ (s t : List ℕ) (i : ℕ) (long : length t ≡ length s) (alike : take i t ≡ take i s) where
+  alike-at : (at : ℕ) → at ≤ i → Same at i (drop at s) (drop at t)
+  alike-at at l =
+      let m : at + (i - at) ≡ i = omega arith in
+      record {
+        long = length-drop at t ∙ ap (λ (n : ℕ). n - at) long ∙ sym (length-drop at s);
+        alike = sym (drop-take at (i - at) t) ∙ ap (λ (n : ℕ). drop at (take n t)) m ∙ ap (λ (x : List ℕ). drop at x) alike ∙ ap (λ (n : ℕ). drop at (take n s)) (sym m) ∙ drop-take at (i - at) s;
+      }
+
+  -- a datagram before i is read alike
+  datagram-alike : {at : ℕ} {f : Found} {bytes items : ℕ} → at + bytes ≤ i → Datagram-at s at f bytes items → Datagram-at t at f bytes items
+  datagram-alike {at} l d =
+      record {
+        levels = d .levels;
+        read = d .read;
+        rest = drop (length (d .read)) (drop at t);
+        inside = omega (arith, d .inside, long);
+        joined = same-front (alike-at at (omega arith)) (d .read) (d .rest) (d .joined) (omega (arith, d .long));
+        long = d .long;
+        is = d .is;
+        shallow = d .shallow;
+      }
+
+  run-alike : {at c n : ℕ} → c ≡ 8 → Run-stops s at c i n → Run-stops t at c i n
+  run-alike {at} e (this l h z) = let k = spans h .0 in this {at = at} (omega (arith, l, long)) (unseen coded-datagram h e (drop at t) (alike-at at k)) z
+  run-alike e (later f bytes items m d g r) = later f bytes items m (datagram-alike (run-spans r) d) g (run-alike e r)
+
+pub run-unseen : (s t : List ℕ) (i n : ℕ) → Run-stops s 0 8 i n → length t ≡ length s → take i t ≡ take i s → Run-stops t 0 8 i n
+run-unseen s t i n h l e = run-alike s t i l e refl h

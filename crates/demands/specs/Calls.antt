@@ -2,12 +2,13 @@
 use mathlib.Core.List.{List}
 use Prim.Native.Nat.{ℕ}
 use Rattle.reading.specs.Answer.{Answer, one, run}
+use Rattle.demands.specs.Itemised.{Subject, a-datagram, a-run}
 
 -- what is answered to an input and a store
 abbrev pub Call : Type 0
 Call = (input store : List ℕ) → Answer
 
 -- `decode` answers `one`, and `decode_run` answers `run`
-pub data Public : Call → Type 0 where
-  decode : Public one
-  decode-run : Public run
+pub data Public : Subject → Call → Type 1 where
+  decode : Public a-datagram one
+  decode-run : Public a-run run

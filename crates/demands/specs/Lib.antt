@@ -1,11 +1,11 @@
-pub mod Calls
 pub mod Depths
 pub mod Nested
 pub mod Stops
 pub mod Readings
 pub mod Tries
 pub mod Itemised
-pub mod RunItemised
+pub mod Calls
+pub mod Demanded
 pub mod FieldsItemised
 pub mod DescriptorFields
 pub mod Parts
