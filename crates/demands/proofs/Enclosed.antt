@@ -1,10 +1,10 @@
 -- An opaque that was read, and its payload as what encloses the reader inside it; and of so many in a row, those before the one that stops.
 -- Assumes nothing.
 use Prim.Native.Nat.{ℕ, zero, suc, _+_, _≤_, _<_}
-use mathlib.Core.Path.{_≡_, refl, sym, _∙_}
+use mathlib.Core.Path.{_≡_, refl, sym, ap, _∙_}
 use mathlib.Core.List.{List}
 use native.Mathlib.Omega.{arith}
-use lib.ListN.{length, take, drop}
+use lib.ListN.{length, take, drop, length-append}
 use lib.Seq.{length-take-le}
 use Rattle.reading.specs.Script.{Span, part, Found, nothing, _&&_, opaque}
 use Rattle.reading.specs.Cursor.{Place, Out, got, stop, Reader, then, read-opaque, read-item, times}
@@ -30,6 +30,10 @@ span-there s p x q e = let t = item-there opaque s p (part x) q (rw e) in go t (
   where
     go : (t : Item-there opaque s p (part x) q) → (y : List ℕ) × Opaque y (t .read) × (part x ≡ part (record { start = p .at + 4; count = length y })) → Span-there s p x q
     go t (y, o, v) = record { payload = y; read = t .read; rest = t .rest; stands = t .stands; at = t .at; steps = t .steps; is = o; span = cc }
+
+-- it is longer than its payload by a word at least
+pub opaque-long : {x u : List ℕ} → Opaque x u → 4 + length x ≤ length u
+opaque-long {x} q = let e = ap length (q .joined) in omega (arith, simp length-append at e, q .four)
 
 -- its payload, as what encloses the reader inside
 module _ {s : List ℕ} {p q : Place} {x : Span} (t : Span-there s p x q) where

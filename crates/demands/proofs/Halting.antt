@@ -12,7 +12,6 @@ use Rattle.reading.specs.Grammar.{Opaque, Is}
 use Rattle.reading.proofs.Stands.{place, Stands, opaque-there, payload-there, bytes-there, drop-take, held, front}
 use Rattle.reading.proofs.Complete.{complete-item, complete-many, complete}
 use Rattle.demands.specs.Stops.{Stops, barred, standing, no-item, not-text, past-item, no-opaque, inside-it, past-it, among, past-all}
-use Rattle.demands.proofs.Opened.{begins}
 use Rattle.demands.proofs.Stopping.{Left, part-stands, left-behind, opaque-missing, item-missing, string-ill, many-stop}
 
 -- the same refusal, counted in two ways
@@ -75,9 +74,8 @@ halting {o = o} {c} {a} {n} (past-item {i} {k = j} x y v m e f ix t) s k h =
     past-an-item s (place o k) i j (complete-item i o k ix (part-stands x y e h)) (halting t s (k + 1) (left-behind x y e h) ∙ same c a (k + 1 + m) (k + n) (omega arith))
 halting {o = o} {c} {a} {n} (no-opaque {body} {k = j} m e f) s k h = no-opaque-here s (place o k) body j (opaque-missing h k m ∙ at-once c c a o k n refl e f)
 halting {o = o} {c} {a} {n} (inside-it {body} {k = j} x m f q t) s k h =
-    let b = begins q in
-    let st = part-stands (b .read) (b .rest) (b .joined) h in
-    in-opaque s (place o k) body j (opaque-there o k (b .is) st) (halting t (take (o + 4 + length x) s) (k + 1) (payload-left (b .is) st) ∙ same c a (k + 1 + m) (k + n) (omega arith))
+    let st = part-stands (q .read) (q .rest) (q .joined) h in
+    in-opaque s (place o k) body j (opaque-there o k (q .is) st) (halting t (take (o + 4 + length x) s) (k + 1) (payload-left (q .is) st) ∙ same c a (k + 1 + m) (k + n) (omega arith))
 halting {o = o} {c} {a} {n} (past-it {body} {k = j} x u y inner rest g m l e f q ex ib t) s k h =
     let st = part-stands u y e h in
     past-opaque s (place o k) body j (opaque-there o k q st) (payload-read q st body inner rest g (k + 1) m ex ib)

@@ -8,7 +8,6 @@ pub mod Placed
 pub mod Depths
 pub mod Limit
 pub mod Fielded
-pub mod Opened
 pub mod Pieces
 pub mod Enclosed
 pub mod Stopped

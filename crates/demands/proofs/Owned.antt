@@ -6,7 +6,7 @@ use native.Mathlib.Omega.{arith}
 use native.Mathlib.Nat.{le-refl, add-assoc}
 use lib.ListN.{length, take, drop, length-append, length-drop, length-take}
 use Rattle.reading.specs.Script.{Width, four, six, eight, sixteen, octet-count, Value, Found, Item, word, tested, long, int, block, opaque, string, Script, give, refuse, here, item, within, repeat, Forest}
-use Rattle.reading.specs.Grammar.{Opaque, Is-item, Meaning, Many, Is}
+use Rattle.reading.specs.Grammar.{Is-item, Meaning, Many, Is}
 use Rattle.reading.specs.Layout.{datagram-to, datagram}
 use Rattle.reading.specs.Values.{alone}
 use Rattle.reading.specs.Answer.{Answer, one, run, layout-of, Fields, read}
@@ -16,6 +16,7 @@ use Rattle.demands.specs.Tries.{Datagram-at, Run, over, next, cut, Run-s
 use Rattle.demands.specs.Itemised.{a-datagram, a-run, Itemised, too-long as refused-long, faulty as refused-there, no-room as refused-last, whole as accepted}
 use Rattle.demands.specs.FieldsItemised.{only-values, read-whole, stopped-at, Fields-itemised, too-long as long-fields, passes, other, held}
 use Rattle.demands.specs.Owned.{firsts-of-many, firsts, firsts-before, run-firsts, run-firsts-before, Apart, none, and, Own, Counted, too-long, faulty, whole, Run-counted, too-long as run-long, faulty as run-faulty, whole as run-whole, Fields-counted, not-read, faulty as fields-faulty, whole as fields-whole}
+use Rattle.demands.proofs.Enclosed.{opaque-long}
 use Rattle.demands.proofs.Itemised.{itemised}
 use Rattle.demands.proofs.Accepted.{one-reads}
 use Rattle.demands.proofs.RunItemised.{run-reads}
@@ -54,9 +55,6 @@ widen : {lo m n : ℕ} {l : List ℕ} (hi : ℕ) → m ≤ hi → Own lo m n l �
 widen hi h t = record { each = t .each; apart = farther hi h (t .apart) }
 
 -- ---- an item has four bytes at least
-
-opaque-long : {x u : List ℕ} → Opaque x u → 4 + length x ≤ length u
-opaque-long {x} q = let e = ap length (q .joined) in omega (arith, simp length-append at e, q .four)
 
 wide : (w : Width) → 4 ≤ octet-count w
 wide four = omega arith
@@ -118,8 +116,8 @@ own-before {o = o} {b = b} (past-item {i} x y v m e f j t) =
     one-more (omega arith) f (widen (o + length b) (omega arith) (own-before t))
 own-before (no-opaque m e f) = no-more (omega arith) f
 own-before {o = o} {b = b} (inside-it x m f q t) =
-    let z = ap length (q .joined) in
-    one-more (le-refl (o + 4)) f (widen (o + length b) (omega (arith, simp length-append at z, q .four)) (own-before t))
+    let z = ap length (q .joined) ∙ length-append (q .read) (q .rest) in
+    one-more (le-refl (o + 4)) f (widen (o + length b) (omega (arith, z, opaque-long (q .is))) (own-before t))
 own-before {o = o} {b = b} (past-it {body} x u y inner rest a m l e f q j r t) =
     let z = ap length e ∙ length-append u y in
     let w = ap length j ∙ length-append inner rest in

@@ -18,7 +18,6 @@ use Rattle.reading.specs.Grammar.{Opaque, Is-item}
 use Rattle.reading.proofs.Items.{never}
 use Rattle.reading.proofs.Stands.{Stands, payload-there, bytes-there}
 use Rattle.reading.proofs.SoundItems.{cut as standing, cut-length, sound-item}
-use Rattle.demands.proofs.Opened.{opens}
 use Rattle.demands.specs.Stops.{No-opaque, no-length, too-long, cut, No-item, no-word, no-tested, failed, no-long, no-int, no-block, no-part, no-string, Opens}
 
 pub behind : {s x y : List ℕ} (o : ℕ) → Stands s o x y → drop (o + length x) s ≡ y
@@ -122,7 +121,7 @@ module _ (s : List ℕ) (p : Place) (i : p .at ≤ length s) {c a n : ℕ} where
               let l : Longest y (well-formed (bytes s x)) = subst (λ (u : List ℕ). Longest u (well-formed (bytes s x))) g (longest (bytes s x)) in
               let h : x .start ≡ p .at + 4 = ap (λ (u : Span). u .start) z in
               let i : a ≡ x .start + well-formed (bytes s x) = cc in
-              ill y (well-formed (bytes s x)) (opens (there .rest) (there .stands .there) o) l (longest-short l (ap utf8 (sym g) ∙ t)) (cc) (i ∙ ap (λ (u : ℕ). u + well-formed (bytes s x)) h) cc
+              ill y (well-formed (bytes s x)) (record { read = there .read; rest = there .rest; joined = rw (there .stands .there); is = o }) l (longest-short l (ap utf8 (sym g) ∙ t)) (cc) (i ∙ ap (λ (u : ℕ). u + well-formed (bytes s x)) h) cc
 
   pub item-short : (k : Item) → read-item k s p ≡ stop c a n → Short s p c a n k
   unfolding read-item

@@ -14,7 +14,6 @@ use Rattle.reading.proofs.Stands.{place, Stands}
 use Rattle.reading.proofs.Sound.{sound}
 use Rattle.reading.proofs.SoundRows.{Read, sound-many}
 use Rattle.demands.specs.Stops.{Stops, barred, standing, no-item, not-text, past-item, no-opaque, inside-it, past-it, among, past-all}
-use Rattle.demands.proofs.Opened.{opens}
 use Rattle.demands.proofs.Pieces.{behind, Item-there, item-there, stop-as, opaque-short, Short, missing, ill, item-short}
 use Rattle.demands.proofs.Enclosed.{Span-there, span-there, held, held-is, held-fits, some}
 
@@ -60,11 +59,11 @@ module _ (i : Item) (k : Value → Script) (ih : (v : Value) → Halts (k v)) wh
 module _ (body : Script) (k : Span → Found → Script) (inner : Halts body) (ih : (x : Span) (a : Found) → Halts (k x a)) where
   within-in : {s : List ℕ} {p q : Place} {x : Span} {c a n : ℕ} (t : Span-there s p x q)
       → Stopped body (held t) (place (p .at + 4) (q .steps)) c a n → Stopped (within body k) s p c a n
-  within-in t r =
+  within-in {s} {p} t r =
       record {
         items = 1 + r .items;
         steps = omega (arith, r .steps, t .steps);
-        stops = inside-it (t .payload) (r .items) refl (opens (t .rest) (t .stands .there) (t .is)) (moved refl (held-is t) (r .stops));
+        stops = inside-it {b = drop (p .at) s} (t .payload) (r .items) refl (record { read = t .read; rest = t .rest; joined = rw (t .stands .there); is = t .is }) (moved refl (held-is t) (r .stops));
       }
 
   within-past : {s : List ℕ} {p q : Place} {x : Span} {c a n : ℕ} {f : Found} {i : Place} (t : Span-there s p x q)

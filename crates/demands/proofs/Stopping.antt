@@ -14,7 +14,6 @@ use Rattle.reading.proofs.Utf8Longest.{longest, longest-is, short-ill}
 use Rattle.reading.proofs.Items.{split}
 use Rattle.reading.proofs.Stands.{place, Stands, opaque-there, payload-there, bytes-there}
 use Rattle.demands.specs.Stops.{No-opaque, no-length, too-long, cut, No-item, no-word, no-tested, failed, no-long, no-int, no-block, no-part, no-string, Opens}
-use Rattle.demands.proofs.Opened.{begins}
 use Rattle.demands.proofs.Pieces.{behind, word-drop}
 
 -- b is what is left of s at o
@@ -77,10 +76,9 @@ module _ {s b : List ℕ} {o : ℕ} (h : Left s o b) (k : ℕ) where
   pub string-ill : {x : List ℕ} {j : ℕ} → Opens x b → Longest x j → j < length x → read-item string s (place o k) ≡ stop 7 (o + 4 + j) k
   unfolding read-item
   string-ill {x} {j} q l m =
-      let b = begins q in
-      let st = part-stands (b .read) (b .rest) (b .joined) h in
-      let g : bytes s (record { start = o + 4; count = length x }) ≡ x = bytes-there (o + 4) (payload-there o (b .is) st .1) in
-      rw (opaque-there o k (b .is) st, g, short-ill l m, longest-is (longest x) l)
+      let st = part-stands (q .read) (q .rest) (q .joined) h in
+      let g : bytes s (record { start = o + 4; count = length x }) ≡ x = bytes-there (o + 4) (payload-there o (q .is) st .1) in
+      rw (opaque-there o k (q .is) st, g, short-ill l m, longest-is (longest x) l)
 
 -- of so many in a row, one that stops
 pub many-stop : (r : Reader Found) (s : List ℕ) (j c : ℕ) (p : Place) {a : Found} {q : Place} {code at n : ℕ} → j < c → times j r s p ≡ got a q → r s q ≡ stop code at n → times c r s p ≡ stop code at n

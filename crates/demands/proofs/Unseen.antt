@@ -1,7 +1,7 @@
 -- Code 8 precedes any look at the record's bytes: whatever stands from that position on, the fault is the same. By induction on where a reading stops, or a
 -- run. Assumes nothing.
 use Prim.Native.Nat.{ℕ, _+_, _-_, _≤_}
-use mathlib.Core.Path.{_≡_, refl, sym, ap, _∙_}
+use mathlib.Core.Path.{_≡_, refl, sym, ap, _∙_, subst}
 use mathlib.Core.Bool.{true}
 use mathlib.Core.List.{List, _++_}
 use native.Mathlib.Omega.{arith}
@@ -9,11 +9,13 @@ use native.Mathlib.Nat.{sub-zero}
 use lib.ListN.{length, take, drop, length-append, length-drop, take-append-drop}
 use lib.Seq.{length-take-le, take-take, take-at, drop-at, take-append-le}
 use Rattle.reading.specs.Script.{Found, Item, Script}
+use Rattle.reading.specs.Grammar.{Opaque}
 use Rattle.reading.specs.Layout.{datagram}
 use Rattle.reading.proofs.Stands.{drop-take}
 use Rattle.reading.proofs.Faults.{fair-item, test-code, Coded, refuses, stands, reads, opens, repeats}
 use Rattle.reading.proofs.Codes.{coded-datagram}
-use Rattle.demands.specs.Stops.{No-opaque, no-length, too-long, cut, Opens, No-item, no-word, no-tested, failed, no-long, no-int, no-block, no-part, no-string, Stops, barred, standing, no-item, not-text, past-item, no-opaque, inside-it, past-it, among, past-all}
+use Rattle.demands.specs.Stops.{No-opaque, no-length, too-long, cut, No-item, no-word, no-tested, failed, no-long, no-int, no-block, no-part, no-string, Stops, barred, standing, no-item, not-text, past-item, no-opaque, inside-it, past-it, among, past-all}
+use Rattle.demands.proofs.Enclosed.{opaque-long}
 use Rattle.demands.specs.Tries.{Datagram-at, Run-stops, this, later}
 
 -- a reading stops no sooner than it starts, and no later than what encloses it ends
@@ -22,16 +24,14 @@ spans (barred e f g) = (omega arith, omega arith)
 spans (standing t) = spans t
 spans (no-item m e f) = (omega arith, omega arith)
 spans (not-text x j q l g z e f) =
-    let r = ap length (q .joined) ∙ length-append (q .size) (x ++ q .rest) in
-    let k = length-append x (q .rest) in
-    (omega arith, omega (arith, r, k, q .four))
+    let r = ap length (q .joined) ∙ length-append (q .read) (q .rest) in
+    (omega arith, omega (arith, r, opaque-long (q .is)))
 spans (past-item x y v m e f ix t) = let r = spans t in let l = ap length e ∙ length-append x y in (omega (arith, r .0), omega (arith, r .1, l))
 spans (no-opaque m e f) = (omega arith, omega arith)
 spans (inside-it x m f q t) =
     let r = spans t in
-    let l = ap length (q .joined) ∙ length-append (q .size) (x ++ q .rest) in
-    let k = length-append x (q .rest) in
-    (omega (arith, r .0), omega (arith, r .1, l, k, q .four))
+    let l = ap length (q .joined) ∙ length-append (q .read) (q .rest) in
+    (omega (arith, r .0), omega (arith, r .1, l, opaque-long (q .is)))
 spans (past-it x u y inner rest g m l e f q ex ib t) = let r = spans t in let k = ap length e ∙ length-append u y in (omega (arith, r .0), omega (arith, r .1, k))
 spans (among j x y g m l lt e f many t) = let r = spans t in let k = ap length e ∙ length-append x y in (omega (arith, r .0), omega (arith, r .1, k))
 spans (past-all x y g m l e f many t) = let r = spans t in let k = ap length e ∙ length-append x y in (omega (arith, r .0), omega (arith, r .1, k))
@@ -79,39 +79,36 @@ module _ {o a : ℕ} {b d : List ℕ} (h : Same o a b d) (x y : List ℕ) (e : b
             ∙ ap (λ (i : ℕ). drop (length x) (take i b)) (sym m) ∙ drop-take (length x) (a - (o + length x)) b ∙ ap (λ (t : List ℕ). take (a - (o + length x)) t) g;
       }
 
--- an opaque that a lies in: its length word is in both, and its payloads are alike
-record Payload-alike (o a : ℕ) (x d : List ℕ) : Type 0 where
-  payload : List ℕ
-  is : Opens payload d
-  same : Same (o + 4) a x payload
+-- the parts of both that end behind a are alike
+same-part : {o a : ℕ} {b d : List ℕ} → Same o a b d → (x y : List ℕ) → b ≡ x ++ y → o ≤ a → a ≤ o + length x → Same o a x (take (length x) d)
+same-part {o} {a} {b} {d} h x y e k l =
+    record {
+      long = length-take-le (length x) d (omega (arith, h .long, ap length e ∙ length-append x y));
+      alike = take-take (a - o) (length x) d (omega arith) ∙ h .alike ∙ ap (λ (t : List ℕ). take (a - o) t) e ∙ take-append-le (a - o) x y (omega arith);
+    }
 
-payload-alike : {o a : ℕ} {b d x : List ℕ} → Same o a b d → Opens x b → o + 4 ≤ a → a ≤ o + 4 + length x → Payload-alike o a x d
-payload-alike {o} {a} {b} {d} {x} h q l m =
+-- opaques whose payloads a lies in: where one is, the other is, and its payload is alike
+opaque-alike : {o a : ℕ} {u v x : List ℕ} → Same o a u v → Opaque x u → o + 4 ≤ a → a ≤ o + 4 + length x → (y : List ℕ) × Opaque y v × Same (o + 4) a x y
+opaque-alike {o} {a} {u} {v} {x} h q l m =
     let k : o + length (q .size) ≤ a = omega (arith, q .four) in
-    cut-out (drop (length (q .size)) d) (same-front h (q .size) (x ++ q .rest) (q .joined) k) (same-back h (q .size) (x ++ q .rest) (q .joined) k)
+    go (drop (length (q .size)) v) (same-front h (q .size) (x ++ q .pad) (q .joined) k)
+    (subst (λ (n : ℕ). Same (o + n) a (x ++ q .pad) (drop (length (q .size)) v)) (q .four) (same-back h (q .size) (x ++ q .pad) (q .joined) k))
   where
-    cut-out : (t : List ℕ) → d ≡ q .size ++ t → Same (o + length (q .size)) a (x ++ q .rest) t → Payload-alike o a x d
-    cut-out t f g =
-        let i = length-append x (q .rest) in
-        let n : length (take (length x) t) ≡ length x = length-take-le (length x) t (omega (arith, g .long, i)) in
-        let c : a - (o + 4) ≡ a - (o + length (q .size)) = omega (arith, q .four) in
-        record {
-          payload = take (length x) t;
-          is = record {
+    go : (t : List ℕ) → v ≡ q .size ++ t → Same (o + 4) a (x ++ q .pad) t → (y : List ℕ) × Opaque y v × Same (o + 4) a x y
+    go t e g =
+        let s = same-part g x (q .pad) refl l m in (
+          take (length x) t,
+          record {
             size = q .size;
-            rest = drop (length x) t;
-            joined = f ∙ ap (λ (z : List ℕ). q .size ++ z) (sym (take-append-drop (length x) t));
+            pad = drop (length x) t;
+            joined = e ∙ ap (λ (z : List ℕ). q .size ++ z) (sym (take-append-drop (length x) t));
             four = q .four;
-            counts = q .counts ∙ sym n;
-            small = rw n (q .small);
-            filled = omega (arith, n, i, g .long, length-drop (length x) t, q .filled);
-          };
-          same = record {
-            long = n;
-            alike = take-take (a - (o + 4)) (length x) t (omega arith) ∙ ap (λ (z : ℕ). take z t) c ∙ g .alike ∙ ap (λ (z : ℕ). take z (x ++ q .rest)) (sym c)
-                ∙ take-append-le (a - (o + 4)) x (q .rest) (omega arith);
-          };
-        }
+            counts = q .counts ∙ sym (s .long);
+            small = rw (s .long) (q .small);
+            filled = omega (arith, s .long, g .long, length-append x (q .pad), length-drop (length x) t, q .filled);
+          },
+          s,
+        )
 
 -- ---- a script that stops with code 8 stops so, whatever stands from there on
 pub unseen : {sc : Script} {o c a n : ℕ} {b : List ℕ} → Coded sc → Stops sc o b c a n → c ≡ 8 → (d : List ℕ) → Same o a b d → Stops sc o d c a n
@@ -125,8 +122,8 @@ unseen (reads i k) (past-item x y v m e f ix t) z d h =
 unseen (opens i k) (no-opaque m e f) z d h = absurd (opaque-not-8 m z)
 unseen (opens i k) (inside-it x m f q t) z d h =
     let r = spans t in
-    let w = payload-alike h q (r .0) (r .1) in
-    inside-it (w .payload) m f (w .is) (unseen i t z (w .payload) (w .same))
+    let (y, w, g) = opaque-alike (same-part h (q .read) (q .rest) (q .joined) (omega (arith, r .0)) (omega (arith, r .1, opaque-long (q .is)))) (q .is) (r .0) (r .1) in
+    inside-it {b = d} y m f (record { read = take (length (q .read)) d; rest = drop (length (q .read)) d; joined = rw (take-append-drop (length (q .read)) d); is = w }) (unseen i t z y g)
 unseen (opens i k) (past-it x u y inner rest g m l e f q ex ib t) z d h =
     let p = spans t .0 in
     past-it x u (drop (length u) d) inner rest g m l (same-front h u y e p) f q ex ib (unseen (k _ g) t z (drop (length u) d) (same-back h u y e p))

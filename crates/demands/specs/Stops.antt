@@ -5,7 +5,7 @@ use mathlib.Core.Path.{_≡_}
 use mathlib.Core.Bool.{Bool, false}
 use mathlib.Core.List.{List, _++_}
 use lib.ListN.{length}
-use Rattle.reading.specs.Bytes.{be4, pads, padded}
+use Rattle.reading.specs.Bytes.{be4, padded}
 use Rattle.reading.specs.Utf8.{Longest}
 use Rattle.reading.specs.Script.{Width, octet-count, Span, Value, Found, Item, word, tested, long, int, block, opaque, string, Script, refuse, here, item, within, repeat}
 use Rattle.reading.specs.Grammar.{Opaque, Is-item, Many, Is}
@@ -16,15 +16,12 @@ pub data No-opaque (b : List ℕ) (code : ℕ) : Type 0 where
   too-long : 4 ≤ length b → 104857600 < be4 b 0 → code ≡ 5 → No-opaque b code
   cut : 4 ≤ length b → be4 b 0 ≤ 104857600 → length b < 4 + padded (be4 b 0) → code ≡ 2 → No-opaque b code
 
--- b begins with an opaque that holds x: a word that counts x, then x, then at least its pad, of any value
+-- b begins with an opaque that holds x, and `rest` is left over
 pub record Opens (x b : List ℕ) : Type 0 where
-  pub size : List ℕ
+  pub read : List ℕ
   pub rest : List ℕ
-  pub joined : b ≡ size ++ (x ++ rest)
-  pub four : length size ≡ 4
-  pub counts : be4 size 0 ≡ length x
-  pub small : length x ≤ 104857600
-  pub filled : pads (length x) ≤ length rest
+  pub joined : b ≡ read ++ rest
+  pub is : Opaque x read
 
 -- b does not begin with this item: this is the code
 pub data No-item (b : List ℕ) (code : ℕ) : Item → Type 0 where
