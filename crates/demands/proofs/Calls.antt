@@ -1,15 +1,15 @@
 -- What holds of both calls that read an input into a store. Assumes nothing.
-use Prim.Native.Nat.{ℕ, _≤_, _<_}
+use Prim.Native.Nat.{ℕ, _*_, _≤_, _<_}
 use mathlib.Core.Path.{_≡_}
 use mathlib.Core.List.{List}
+use native.Mathlib.Omega.{arith}
 use borrow.Author.Tests.{le-leb}
 use lib.ListN.{length, take}
 use Rattle.reading.specs.Answer.{limit, whole-span, payload}
 use Rattle.demands.specs.Calls.{Call, Public, decode, decode-run}
 use Rattle.demands.specs.Nested.{last, Row, row, all-of, whole-of}
 use Rattle.demands.specs.Itemised.{Subject}
-use Rattle.demands.proofs.Quarter.{Quartered, one-quartered, run-quartered}
-use Rattle.demands.proofs.Kept.{Kept, one-kept, run-kept}
+use Rattle.demands.proofs.Owned.{own-bound, one-owns, run-owns}
 use Rattle.demands.proofs.Placed.{Placed, one-placed, run-placed}
 use Rattle.demands.specs.DescriptorFields.{range}
 use Rattle.demands.specs.Frames.{Frame-at, Frame}
@@ -23,13 +23,9 @@ pub reads : {t : Subject} {c : Call} → Public t c → Reads t c
 reads decode = one-reads
 reads decode-run = run-reads
 
-pub kept : {t : Subject} {c : Call} → Public t c → (s w : List ℕ) → Kept w (c s w)
-kept decode s w = one-kept s w
-kept decode-run s w = run-kept s w
-
-pub quartered : {t : Subject} {c : Call} → Public t c → (s w : List ℕ) → Quartered s (c s w)
-quartered decode s w = one-quartered s w
-quartered decode-run s w = run-quartered s w
+pub steps-small : {t : Subject} {c : Call} → Public t c → (s w : List ℕ) → 4 * c s w .steps ≤ length s
+steps-small decode s w = let b = own-bound (one-owns s w .2) in omega (arith, b)
+steps-small decode-run s w = let b = own-bound (run-owns s w .2) in omega (arith, b)
 
 pub placed : {t : Subject} {c : Call} → Public t c → (s w : List ℕ) → Placed s (c s w)
 placed decode s w = one-placed s w

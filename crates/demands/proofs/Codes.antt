@@ -1,6 +1,6 @@
 -- The code of every answer is one of its call's. For one datagram and a run; `FieldsItemised` has field reading. Assumes nothing.
 use Prim.Native.Nat.{ℕ, zero, suc, _≤_}
-use mathlib.Core.Path.{_≡_, refl, ap}
+use mathlib.Core.Path.{_≡_, refl}
 use mathlib.Core.Bool.{true}
 use mathlib.Core.List.{List, [], _∷_}
 use native.Mathlib.Omega.{arith}
@@ -8,14 +8,13 @@ use Rattle.reading.specs.Numbers.{known}
 use Rattle.reading.specs.Script.{Span, Value, Found, Item, Script, give, refuse, here, item, within, repeat}
 use Rattle.reading.specs.Layout.{num, Field, plain, mac, addr, list, segments, address-of, run-of, field, fields}
 use Rattle.reading.specs.Values.{alone}
-use Rattle.reading.specs.Answer.{Answer, one, run}
+use Rattle.reading.specs.Answer.{one, run}
 use Rattle.reading.proofs.Faults.{both, test-code, fair-item, fair-field, fair, Coded, gives, refuses, stands, reads, opens, repeats}
 use Rattle.reading.proofs.Codes.{coded-datagram}
 use Rattle.demands.specs.Codes.{one-codes, run-codes, field-codes}
 use Rattle.demands.specs.Stops.{No-opaque, no-length, too-long as above, cut, No-item, no-word, no-tested, failed, no-long, no-int, no-block, no-part, no-string, Stops, barred, standing, no-item, not-text, past-item, no-opaque, inside-it, past-it, among, past-all}
-use Rattle.demands.specs.Itemised.{a-datagram, a-run, Itemised, too-long, faulty, no-room, whole}
 use Rattle.demands.specs.Tries.{Run-stops, this, later}
-use Rattle.demands.proofs.Itemised.{itemised}
+use Rattle.demands.proofs.Itemised.{by-code}
 use Rattle.demands.proofs.Accepted.{one-reads}
 use Rattle.demands.proofs.RunItemised.{run-reads}
 
@@ -138,22 +137,9 @@ of-fields c h k l =
 -- ---- the calls
 
 pub one-coded : (s w : List ℕ) → known one-codes (one s w .code) ≡ true
-one-coded s w = go (one s w) (itemised one-reads s w)
-  where
-    go : (a : Answer) → Itemised a-datagram s w a → known one-codes (a .code) ≡ true
-    go a (too-long h e) = let z = ap (λ (b : Answer). b .code) e in of-one (a .code) (omega arith)
-    go a (faulty h c i n t e) = let z = ap (λ (b : Answer). b .code) e in let k = fault-code {m = 8} (omega arith) (to-8 coded-datagram) t in of-one (a .code) (omega (arith, k .1))
-    go a (no-room h f bytes items r k e) = let z = ap (λ (b : Answer). b .code) e in of-one (a .code) (omega arith)
-    go a (whole k e) = of-one (a .code) (omega (arith, k .answers .code))
+unfolding known
+one-coded s w = by-code one-reads (λ c. known one-codes c ≡ true) s w refl refl refl (λ c i n t. let k = fault-code {m = 8} (omega arith) (to-8 coded-datagram) t in of-one c (omega (arith, k .1)))
 
 pub run-coded : (s w : List ℕ) → known run-codes (run s w .code) ≡ true
-run-coded s w = go (run s w) (itemised run-reads s w)
-  where
-    go : (a : Answer) → Itemised a-run s w a → known run-codes (a .code) ≡ true
-    go a (too-long h e) = let z = ap (λ (b : Answer). b .code) e in of-run (a .code) (omega arith) (λ y. omega arith)
-    go a (faulty h c i n t e) =
-        let z = ap (λ (b : Answer). b .code) e in
-        let k = run-fault-code t in
-        of-run (a .code) (omega (arith, k .1)) (λ y. k .2 (omega arith))
-    go a (no-room h g end n r k e) = let z = ap (λ (b : Answer). b .code) e in of-run (a .code) (omega arith) (λ y. omega arith)
-    go a (whole k e) = of-run (a .code) (omega (arith, k .answers .code)) (λ y. omega (arith, k .answers .code))
+unfolding known
+run-coded s w = by-code run-reads (λ c. known run-codes c ≡ true) s w refl refl refl (λ c i n t. let k = run-fault-code t in of-run c (omega (arith, k .1)) (k .2))

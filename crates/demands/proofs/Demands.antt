@@ -24,7 +24,7 @@ use Rattle.demands.proofs.Codes.{one-coded, run-coded}
 use Rattle.demands.proofs.CodesOccur.{one-occur, run-occur, field-occur}
 use Rattle.demands.specs.Itemised.{Subject, a-datagram, a-run, Answers, Itemised}
 use Rattle.demands.specs.Demanded.{Accepts-exactly, Answers-reading, Counts-items}
-use Rattle.demands.proofs.Itemised.{itemised, only-itemised, long-refused, fault-refused, reading-answers, one-whole, one-fault, no-fault, room-last, never-for-room, accepts-exactly, answers-reading, counts-items, accepted-only, eight-unseen}
+use Rattle.demands.proofs.Itemised.{itemised, only-itemised, long-refused, fault-refused, reading-answers, one-whole, one-fault, no-fault, room-last, never-for-room, needed-small, accepts-exactly, answers-reading, counts-items, accepted-only, eight-unseen}
 use Rattle.demands.specs.Owned.{firsts, firsts-before, Own, Counted, Run-counted, Fields-counted}
 use Rattle.demands.proofs.Owned.{own, own-before, one-owns, run-owns, fields-own}
 use Rattle.demands.specs.Tries.{Run}
@@ -36,7 +36,8 @@ use Rattle.demands.proofs.Placed.{under-inside, together}
 use Rattle.demands.specs.FieldsItemised.{Fields-reading, Fields-itemised, Fields-read}
 use Rattle.demands.proofs.FieldsItemised.{fields-itemised, itemised-only, fields-accepted, fields-coded, fields-quartered, one-fields-reading}
 use Rattle.demands.specs.Calls.{Call, Public}
-use Rattle.demands.proofs.Calls.{reads, unseen, kept, quartered, placed, whole-there, framed, payload-there}
+use Rattle.demands.proofs.Kept.{kept}
+use Rattle.demands.proofs.Calls.{reads, unseen, steps-small, placed, whole-there, framed, payload-there}
 use Rattle.demands.proofs.Impostors.{p2, refuses-all, answers-p2, writes-nothing, own-steps, run-invents}
 use Rattle.demands.specs.Frames.{Frame-at, Frame}
 use Rattle.demands.specs.Parts.{Stands-at, Payload-is, Listed-is, Segment-itemised, First-of-segments}
@@ -68,27 +69,27 @@ module _ {t : Subject} {c : Call} (p : Public t c) where
 module _ {t : Subject} {c : Call} (p : Public t c) (s w : List ℕ) where
   -- ---- demand 1 (`Kept`): a refusal leaves every store word, shows a header of zeros, and needs no descriptors but for want of room
   pub refusal-keeps : (c s w .code ≡ 0 → ⊥) → c s w .store ≡ w
-  refusal-keeps = kept p s w .refused-store
+  refusal-keeps = kept (reads p) s w .refused-store
 
   pub refusal-shows : (c s w .code ≡ 0 → ⊥) → c s w .head ≡ no-header
-  refusal-shows = kept p s w .refused-head
+  refusal-shows = kept (reads p) s w .refused-head
 
   pub refusal-needs : (c s w .code ≡ 0 → ⊥) → (c s w .code ≡ 9 → ⊥) → c s w .needed ≡ 0
-  refusal-needs = kept p s w .refused-needed
+  refusal-needs = kept (reads p) s w .refused-needed
 
   -- an acceptance leaves the words behind its descriptors, and the store its length
   pub rest-stays : drop (row-words * c s w .needed) (c s w .store) ≡ drop (row-words * c s w .needed) w
-  rest-stays = kept p s w .behind
+  rest-stays = kept (reads p) s w .behind
 
   pub length-stays : length (c s w .store) ≡ length w
-  length-stays = kept p s w .words
+  length-stays = kept (reads p) s w .words
 
-  -- ---- demand 3, the bounds (`Quarter`): accepted or refused; a run's figures are sums over every datagram tried
+  -- ---- demand 3, the bounds (`Owned`, `Quarter`): accepted or refused; a run's figures are sums over every datagram tried
   pub steps-bounded : 4 * c s w .steps ≤ length s
-  steps-bounded = quartered p s w .steps
+  steps-bounded = steps-small p s w
 
   pub needed-bounded : 4 * c s w .needed ≤ length s
-  needed-bounded = quartered p s w .needed
+  needed-bounded = needed-small (reads p) s w
 
   -- so a store for a quarter of the length, rounded down, is never refused for room
   pub quarter-suffices : length s / 4 ≤ room w → c s w .code ≡ 9 → ⊥

@@ -67,6 +67,25 @@ module _ {t : Subject} {f : Call} (r : Reads t f) where
       go true b = short (leb-true _ _ b) (r .says s)
       go false b = too-long (leb-false _ _ b) refl
 
+  -- so what holds of each code holds of the one that is answered, and what holds of the items read holds of the steps
+  pub by-code : (P : ℕ → Type 0) (s w : List ℕ) → P 0 → P 1 → P 9 → ((c i n : ℕ) → t .Stopped s c i n → P c) → P (f s w .code)
+  by-code P s w accepted long last stops = go (f s w) (itemised s w)
+    where
+      go : (a : Answer) → Itemised t s w a → P (a .code)
+      go a (too-long h e) = rw e long
+      go a (faulty h c i n k e) = rw e (stops c i n k)
+      go a (no-room h x end n k l e) = rw e last
+      go a (whole k e) = rw (k .answers .code) accepted
+
+  pub by-items : (P : ℕ → Type 0) (s w : List ℕ) → (limit < length s → P 0) → ((c i n : ℕ) → t .Stopped s c i n → P n) → ((x : t .Finding) (end n : ℕ) → t .Whole s x end n → P n) → P (f s w .steps)
+  by-items P s w none stops all = go (f s w) (itemised s w)
+    where
+      go : (a : Answer) → Itemised t s w a → P (a .steps)
+      go a (too-long h e) = rw e (none h)
+      go a (faulty h c i n k e) = rw e (stops c i n k)
+      go a (no-room h x end n k l e) = rw e (all x end n k)
+      go a (whole k e) = rw e (all (k .found) (k .end) (k .items) (k .reading))
+
   -- ---- and no other answer is
   pub only-itemised : (s w : List ℕ) {a : Answer} → Itemised t s w a → a ≡ f s w
   unfolding shown
@@ -138,6 +157,16 @@ module _ {t : Subject} {f : Call} (r : Reads t f) where
 
   pub never-for-room : (s w : List ℕ) → length s / 4 ≤ room w → f s w .code ≡ 9 → ⊥
   never-for-room s w l z = let (x, end, n, k, m, _) = room-last s w z in let y = fits s w k l in omega (arith, m, y)
+
+  -- and four bytes of the input for each descriptor needed
+  pub needed-small : (s w : List ℕ) → 4 * f s w .needed ≤ length s
+  needed-small s w = go (f s w) (itemised s w)
+    where
+      go : (a : Answer) → Itemised t s w a → 4 * a .needed ≤ length s
+      go a (too-long h e) = rw e (omega arith)
+      go a (faulty h c i n k e) = rw e (omega arith)
+      go a (no-room h x end n k l e) = rw e (r .small s x end n k)
+      go a (whole k e) = rw (k .answers .needed) (r .small s (k .found) (k .end) (k .items) (k .reading))
 
   -- ---- it meets the demands
   pub accepts-exactly : Accepts-exactly t f

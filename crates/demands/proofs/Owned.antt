@@ -1,5 +1,5 @@
 -- Demand 3: each step owns four bytes that no other owns, accepted or refused. By induction on the reading, and on where it stops. Assumes nothing.
-use Prim.Native.Nat.{ℕ, zero, suc, _+_, _≤_, _<_}
+use Prim.Native.Nat.{ℕ, zero, suc, _+_, _*_, _≤_, _<_}
 use mathlib.Core.Path.{_≡_, refl, sym, ap, _∙_}
 use mathlib.Core.List.{List, [], _∷_, _++_}
 use native.Mathlib.Omega.{arith}
@@ -9,15 +9,14 @@ use Rattle.reading.specs.Script.{Width, four, six, eight, sixteen, octet-count,
 use Rattle.reading.specs.Grammar.{Is-item, Meaning, Many, Is}
 use Rattle.reading.specs.Layout.{datagram-to, datagram}
 use Rattle.reading.specs.Values.{alone}
-use Rattle.reading.specs.Answer.{Answer, one, run, layout-of, Fields, read}
+use Rattle.reading.specs.Answer.{one, run, layout-of, Fields, read}
 use Rattle.demands.specs.Stops.{Stops, barred, standing, no-item, not-text, past-item, no-opaque, inside-it, past-it, among, past-all}
 use Rattle.demands.specs.Readings.{Allowed}
 use Rattle.demands.specs.Tries.{Datagram-at, Run, over, next, cut, Run-stops, this, later}
-use Rattle.demands.specs.Itemised.{a-datagram, a-run, Itemised, too-long as refused-long, faulty as refused-there, no-room as refused-last, whole as accepted}
 use Rattle.demands.specs.FieldsItemised.{only-values, read-whole, stopped-at, Fields-itemised, too-long as long-fields, passes, other, held}
 use Rattle.demands.specs.Owned.{firsts-of-many, firsts, firsts-before, run-firsts, run-firsts-before, Apart, none, and, Own, Counted, too-long, faulty, whole, Run-counted, too-long as run-long, faulty as run-faulty, whole as run-whole, Fields-counted, not-read, faulty as fields-faulty, whole as fields-whole}
 use Rattle.demands.proofs.Enclosed.{opaque-long}
-use Rattle.demands.proofs.Itemised.{itemised}
+use Rattle.demands.proofs.Itemised.{by-items}
 use Rattle.demands.proofs.Accepted.{one-reads}
 use Rattle.demands.proofs.RunItemised.{run-reads}
 use Rattle.demands.proofs.FieldsItemised.{fields-itemised}
@@ -53,6 +52,14 @@ and-on {l = l} {r} e t u = record { each = length-append l r ∙ omega (arith, t
 -- to further behind
 widen : {lo m n : ℕ} {l : List ℕ} (hi : ℕ) → m ≤ hi → Own lo m n l → Own lo hi n l
 widen hi h t = record { each = t .each; apart = farther hi h (t .apart) }
+
+-- so there are four bytes for each
+pub own-bound : {lo hi n : ℕ} {l : List ℕ} → Own lo hi n l → lo + 4 * n ≤ hi
+own-bound {lo} {hi} {n} {l} t = omega (arith, t .each, apart-bound (t .apart))
+  where
+    apart-bound : {lo hi : ℕ} {l : List ℕ} → Apart lo hi l → lo + 4 * length l ≤ hi
+    apart-bound (none h) = omega arith
+    apart-bound (and h k) = let r = apart-bound k in omega (arith, r)
 
 -- ---- an item has four bytes at least
 
@@ -166,22 +173,14 @@ module _ (s w : List ℕ) where
       widen (length s) (omega (arith, simp length-append at z)) (own (datagram-to (d .levels)) 0 (d .read) f items (d .is))
 
   pub one-owns : (at : List ℕ) × Counted s at × Own 0 (length s) (one s w .steps) at
-  one-owns = go (one s w) (itemised one-reads s w)
-    where
-      go : (a : Answer) → Itemised a-datagram s w a → (at : List ℕ) × Counted s at × Own 0 (length s) (a .steps) at
-      go a (refused-long h e) = ([], too-long h, no-more (omega arith) (ap (λ (b : Answer). b .steps) e))
-      go a (refused-there h c i n t e) = (firsts-before t, faulty t, as-many (ap (λ (b : Answer). b .steps) e) (widen (length s) (omega arith) (own-before t)))
-      go a (refused-last h f bytes items r k e) = (_, whole r, as-many (ap (λ (b : Answer). b .steps) e) (own-reading r))
-      go a (accepted k e) = (_, whole (k .reading), as-many e (own-reading (k .reading)))
+  one-owns =
+      by-items one-reads (λ n. (at : List ℕ) × Counted s at × Own 0 (length s) n at) s w (λ h. ([], too-long h, no-more (omega arith) refl))
+      (λ c i n t. (firsts-before t, faulty t, widen (length s) (omega arith) (own-before t))) (λ f bytes items r. (_, whole r, own-reading r))
 
   pub run-owns : (at : List ℕ) × Run-counted s at × Own 0 (length s) (run s w .steps) at
-  run-owns = go (run s w) (itemised run-reads s w)
-    where
-      go : (a : Answer) → Itemised a-run s w a → (at : List ℕ) × Run-counted s at × Own 0 (length s) (a .steps) at
-      go a (refused-long h e) = ([], run-long h, no-more (omega arith) (ap (λ (b : Answer). b .steps) e))
-      go a (refused-there h c i n t e) = (run-firsts-before t, run-faulty t, as-many (ap (λ (b : Answer). b .steps) e) (own-run-before s t))
-      go a (refused-last h g end n t k e) = (run-firsts t, run-whole t, as-many (ap (λ (b : Answer). b .steps) e) (own-run s t))
-      go a (accepted k e) = (_, run-whole (k .reading), as-many e (own-run s (k .reading)))
+  run-owns =
+      by-items run-reads (λ n. (at : List ℕ) × Run-counted s at × Own 0 (length s) n at) s w (λ h. ([], run-long h, no-more (omega arith) refl))
+      (λ c i n t. (run-firsts-before t, run-faulty t, own-run-before s t)) (λ g end n t. (run-firsts t, run-whole t, own-run s t))
 
 module _ (ak af : ℕ) (s : List ℕ) (k f start extent : ℕ) where
   pub fields-own : (at : List ℕ) × Fields-counted ak af s k f start extent at × Own start (start + extent) (read ak af s k f start extent .steps) at
