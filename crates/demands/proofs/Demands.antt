@@ -205,8 +205,8 @@ module _ (s w : List ℕ) where
   pub fields-are-read : one s w .code ≡ 0 → {f : Found} {bytes items : ℕ} → Allowed s f bytes items → All-fields s (f .ranges) (one s w .store)
   fields-are-read = one-fields s w
 
-  -- ---- demand 3 (`Owned`): each item that is a step owns four bytes that no other owns; there are as many as steps, and the four bytes from the first of each on are
-  -- apart, and in the input
+  -- ---- demand 3 (`Owned`): each item that is a step owns four bytes that no other owns; there are as many as steps, and the four bytes from the first
+  -- of each on are apart, and in the input
   pub steps-own-bytes : (at : List ℕ) × Counted s at × Own 0 (length s) (one s w .steps) at
   steps-own-bytes = one-owns s w
 

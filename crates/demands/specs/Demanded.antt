@@ -17,6 +17,6 @@ module _ (t : Subject) (f : Call) where
   abbrev pub Answers-reading : Type 0
   Answers-reading = (s w : List ℕ) → f s w .code ≡ 0 → Accepted t s w (f s w)
 
-  -- demand 3: the steps are the items of the reading up to where it stopped
+  -- demand 3: the steps are the items of the reading up to where it stopped, as an answer has them that says what the reading is
   abbrev pub Counts-items : Type 0
   Counts-items = (s w : List ℕ) → (a : Answer) × Itemised t s w a × (f s w .steps ≡ a .steps)
