@@ -26,17 +26,18 @@ use Rattle.demands.proofs.Halting.{halting}
 use Rattle.demands.proofs.Itemised.{shown, Says, read, stopped as halts, Reads}
 
 -- with so many levels, the cursor gives a reading that is no deeper
-pub given : (m : ℕ) (s : List ℕ) {f : Found} {n k : ℕ} → Reading s f n k → Shallow m (f .ranges) → follow (datagram-to m) s (place 0 0) ≡ got f (place n k)
+pub given : (m : ℕ) (s : List ℕ) {f : Found} {n k : ℕ} → Reading 0 s f n k → Shallow m (f .ranges) → follow (datagram-to m) s (place 0 0) ≡ got f (place n k)
 given m s {f} {n} {k} r z =
-    complete (datagram-to m) s (r .read) (r .rest) f 0 0 k (same-reading (r .levels) m 0 (r .read) f k (r .is) z) (record { there = r .joined; fits = rw (r .joined, length-append) (omega arith) })
-    ∙ ap (λ (i : ℕ). got f (place i (0 + k))) (zero-add _ ∙ r .long) ∙ ap (λ (i : ℕ). got f (place n i)) (zero-add k)
+    let b = r .begins in
+    complete (datagram-to m) s (b .read) (b .rest) f 0 0 k (same-reading (r .levels) m 0 (b .read) f k (b .is) z) (record { there = b .joined; fits = rw (b .joined, length-append) (omega arith) })
+    ∙ ap (λ (i : ℕ). got f (place i (0 + k))) (zero-add _ ∙ b .long) ∙ ap (λ (i : ℕ). got f (place n i)) (zero-add k)
 
 -- no input has two readings, however deep
-pub one-reading : (s : List ℕ) {f g : Found} {n m k l : ℕ} → Reading s f n k → Reading s g m l → (f ≡ g) × (n ≡ m) × (k ≡ l)
+pub one-reading : (s : List ℕ) {f g : Found} {n m k l : ℕ} → Reading 0 s f n k → Reading 0 s g m l → (f ≡ g) × (n ≡ m) × (k ≡ l)
 one-reading s {f} {g} {n} {m} {k} {l} a b =
     let d = a .levels + b .levels in
-    let x = given d s a (deeper d (omega arith) (no-deeper (a .levels) 0 (a .read) f k (a .is))) in
-    let y = given d s b (deeper d (omega arith) (no-deeper (b .levels) 0 (b .read) g l (b .is))) in
+    let x = given d s a (deeper d (omega arith) (no-deeper (a .levels) 0 (a .begins .read) f k (a .begins .is))) in
+    let y = given d s b (deeper d (omega arith) (no-deeper (b .levels) 0 (b .begins .read) g l (b .begins .is))) in
     let e : got f (place n k) ≡ got g (place m l) = sym x ∙ y in
     let p : place n k ≡ place m l = cc in
     (cc, ap (λ (q : Place). q .at) p, ap (λ (q : Place). q .steps) p)
@@ -49,7 +50,7 @@ says : (s : List ℕ) (o : Out Found) → follow datagram s (from 0) ≡ o → S
 says s (got a q) e =
     let r = accepted-is-read s a (q .at) (q .steps) e in
     read (record {
-      reading = record { levels = depth-limit; read = r .read; rest = r .rest; joined = r .joined; long = r .long; is = r .is };
+      reading = record { levels = depth-limit; begins = record { read = r .read; rest = r .rest; joined = r .joined; long = r .long; is = r .is } };
       shallow = deeper _ (omega arith) (no-deeper depth-limit 0 (r .read) a (q .steps) (r .is));
     })
 says s (stop c i n) e =

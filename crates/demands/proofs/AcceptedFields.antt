@@ -24,7 +24,7 @@ module _ (s w : List ℕ) where
       subst (All-fields s (a .found .ranges)) (sym (a .answers .store))
       (datagram-fields s (a .short) (a .found) (place (a .end) (a .items)) (drop (row-words * size (a .found .ranges)) w) (given depth-limit s (a .reading .reading) (a .reading .shallow)))
 
-  pub one-fields : one s w .code ≡ 0 → {f : Found} {bytes items : ℕ} → Allowed s f bytes items → All-fields s (f .ranges) (one s w .store)
+  pub one-fields : one s w .code ≡ 0 → {f : Found} {bytes items : ℕ} → Allowed 0 s f bytes items → All-fields s (f .ranges) (one s w .store)
   one-fields z r = let a = accepted-reads one-reads s w z in subst (λ (f : Found). All-fields s (f .ranges) (one s w .store)) (one-whole one-reads s (a .reading) r .0) (by-found a)
 
   by-ranges : (a : Accepted a-run s w (run s w)) → All-fields s (a .found) (run s w .store)

@@ -197,12 +197,12 @@ module _ {t : Subject} {c : Call} (p : Public t c) (s w : List ℕ) where
 -- ==== one datagram
 module _ (s w : List ℕ) where
   -- ---- demand 2 (`Limit`): no input has two readings, however deep
-  pub only-reading : {f g : Found} {n m k l : ℕ} → Reading s f n k → Reading s g m l → (f ≡ g) × (n ≡ m) × (k ≡ l)
+  pub only-reading : {f g : Found} {n m k l : ℕ} → Reading 0 s f n k → Reading 0 s g m l → (f ≡ g) × (n ≡ m) × (k ≡ l)
   only-reading = one-reading s
 
   -- the fields of each descriptor that is read here (`Fielded`): field reading gives the values that the grammar reads at the start of its range, with
   -- which it reads, behind them, what this reading has inside the range
-  pub fields-are-read : one s w .code ≡ 0 → {f : Found} {bytes items : ℕ} → Allowed s f bytes items → All-fields s (f .ranges) (one s w .store)
+  pub fields-are-read : one s w .code ≡ 0 → {f : Found} {bytes items : ℕ} → Allowed 0 s f bytes items → All-fields s (f .ranges) (one s w .store)
   fields-are-read = one-fields s w
 
   -- ---- demand 3 (`Owned`): each item that is a step owns four bytes that no other owns; there are as many as steps, and the four bytes from the first

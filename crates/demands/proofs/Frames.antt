@@ -158,8 +158,10 @@ good-datagram limit o u f k t = good-fields header (λ vs. samples-of o vs) .say
 good-run-of : (s : List ℕ) {at end n : ℕ} {g : Forest} → Run s at g end n → Frames s g
 good-run-of s (over e f m z) = rw z none
 good-run-of s {at} (next f bytes items h m d e z t) =
-    rw z (both (good-datagram (d .levels) at (d .read) f items (d .is) s
-    (record { before = take at s; after = d .rest; joined = sym (take-append-drop at s) ∙ ap (λ (b : List ℕ). take at s ++ b) (d .joined); long = length-take-le at s (d .inside) }))
+    let r = d .allowed .reading in
+    let i = r .begins in
+    rw z (both (good-datagram (r .levels) at (i .read) f items (i .is) s
+    (record { before = take at s; after = i .rest; joined = sym (take-append-drop at s) ∙ ap (λ (b : List ℕ). take at s ++ b) (i .joined); long = length-take-le at s (d .inside) }))
     (good-run-of s t))
 good-run-of s (cut h i t e z) = rw z none
 
@@ -187,9 +189,10 @@ module _ (s w : List ℕ) where
   one-frames z i l =
       let a = accepted-reads one-reads s w z in
       let r = a .reading .reading in
+      let b = r .begins in
       subst (λ (t : List ℕ). Frame s (range t i)) (sym (a .answers .store))
       (in-store s (a .found .ranges) (drop (row-words * size (a .found .ranges)) w)
-      (good-datagram (r .levels) 0 (r .read) (a .found) (a .items) (r .is) s (record { before = []; after = r .rest; joined = r .joined; long = refl })) i (rw (a .answers .needed) at l))
+      (good-datagram (r .levels) 0 (b .read) (a .found) (a .items) (b .is) s (record { before = []; after = b .rest; joined = b .joined; long = refl })) i (rw (a .answers .needed) at l))
 
   pub run-frames : run s w .code ≡ 0 → (i : ℕ) → i < run s w .needed → Frame s (range (run s w .store) i)
   run-frames z i l =

@@ -12,9 +12,9 @@ use Rattle.reading.specs.Values.{alone}
 use Rattle.reading.specs.Answer.{one, run, layout-of, Fields, read}
 use Rattle.demands.specs.Stops.{Stops, barred, standing, no-item, not-text, past-item, no-opaque, inside-it, past-it, among, past-all}
 use Rattle.demands.specs.Readings.{Allowed}
-use Rattle.demands.specs.Tries.{Datagram-at, Run, over, next, cut, Run-stops, this, later}
+use Rattle.demands.specs.Tries.{Run, over, next, cut, Run-stops, this, later}
 use Rattle.demands.specs.FieldsItemised.{only-values, read-whole, stopped-at, Fields-itemised, too-long as long-fields, passes, other, held}
-use Rattle.demands.specs.Owned.{firsts-of-many, firsts, firsts-before, run-firsts, run-firsts-before, Apart, none, and, Own, Counted, too-long, faulty, whole, Run-counted, too-long as run-long, faulty as run-faulty, whole as run-whole, Fields-counted, not-read, faulty as fields-faulty, whole as fields-whole}
+use Rattle.demands.specs.Owned.{firsts-of-many, firsts, firsts-before, firsts-of, run-firsts, run-firsts-before, Apart, none, and, Own, Counted, too-long, faulty, whole, Run-counted, too-long as run-long, faulty as run-faulty, whole as run-whole, Fields-counted, not-read, faulty as fields-faulty, whole as fields-whole}
 use Rattle.demands.proofs.Enclosed.{opaque-long}
 use Rattle.demands.proofs.Itemised.{by-items}
 use Rattle.demands.proofs.Accepted.{one-reads}
@@ -138,26 +138,25 @@ own-before {o = o} {b = b} (past-all {c} {body} x y a m l e f r t) =
     let z = ap length e ∙ length-append x y in
     widen (o + length b) (omega arith) (and-on f (own-many c (Is body) (firsts body) (own body) o x a m r) (own-before t))
 
--- ---- a run
+-- ---- a datagram, and a run
+
+own-allowed : {o : ℕ} {b : List ℕ} {f : Found} {bytes items : ℕ} (r : Allowed o b f bytes items) → Own o (o + bytes) items (firsts-of r)
+own-allowed {o} {f = f} {bytes} {items} r = let i = r .reading .begins in widen (o + bytes) (omega (arith, i .long)) (own (datagram-to (r .reading .levels)) o (i .read) f items (i .is))
 
 module _ (s : List ℕ) where
-  -- a datagram in it
-  own-datagram : {at : ℕ} {f : Found} {bytes items : ℕ} (d : Datagram-at s at f bytes items) → Own at (at + bytes) items (firsts (datagram-to (d .levels)) at (d .read) f items (d .is))
-  own-datagram {at} {f} {bytes} {items} d = widen (at + bytes) (omega (arith, d .long)) (own (datagram-to (d .levels)) at (d .read) f items (d .is))
-
   own-tried : {at c i n : ℕ} → at < length s → (t : Stops datagram at (drop at s) c i n) → Own at (length s) n (firsts-before t)
   own-tried {at} h t = widen (length s) (omega (arith, length-drop at s)) (own-before t)
 
   own-run : {at end n : ℕ} {g : Forest} (t : Run s at g end n) → Own at (length s) n (run-firsts t)
   unfolding run-firsts
   own-run (over e f m z) = no-more (omega arith) m
-  own-run (next f bytes items h m d e z t) = and-on e (own-datagram d) (own-run t)
+  own-run (next f bytes items h m d e z t) = and-on e (own-allowed (d .allowed)) (own-run t)
   own-run (cut h i t e z) = own-tried h t
 
   own-run-before : {at c i n : ℕ} (t : Run-stops s at c i n) → Own at (length s) n (run-firsts-before t)
   unfolding run-firsts-before
   own-run-before (this h t z) = own-tried h t
-  own-run-before (later f bytes items m d e t) = and-on e (own-datagram d) (own-run-before t)
+  own-run-before (later f bytes items m d e t) = and-on e (own-allowed (d .allowed)) (own-run-before t)
 
 -- ---- the calls
 
@@ -166,11 +165,11 @@ as-many : {lo hi n k : ℕ} {l : List ℕ} → k ≡ n → Own lo hi n l → Own
 as-many e t = record { each = t .each ∙ sym e; apart = t .apart }
 
 module _ (s w : List ℕ) where
-  own-reading : {f : Found} {bytes items : ℕ} (r : Allowed s f bytes items) → Own 0 (length s) items (firsts (datagram-to (r .reading .levels)) 0 (r .reading .read) f items (r .reading .is))
-  own-reading {f} {bytes} {items} r =
-      let d = r .reading in
-      let z = ap length (d .joined) in
-      widen (length s) (omega (arith, simp length-append at z)) (own (datagram-to (d .levels)) 0 (d .read) f items (d .is))
+  own-reading : {f : Found} {bytes items : ℕ} (r : Allowed 0 s f bytes items) → Own 0 (length s) items (firsts-of r)
+  own-reading r =
+      let b = r .reading .begins in
+      let z = ap length (b .joined) ∙ length-append (b .read) (b .rest) in
+      widen (length s) (omega (arith, z, b .long)) (own-allowed r)
 
   pub one-owns : (at : List ℕ) × Counted s at × Own 0 (length s) (one s w .steps) at
   one-owns =

@@ -47,7 +47,13 @@ module _ (s : List ℕ) (p : Place) where
         items = r .items;
         at = r .at;
         steps = r .steps;
-        is = record { levels = depth-limit; read = r .read; rest = r .rest; inside = h; joined = r .stands .there; long = refl; is = r .is; shallow = no-deeper depth-limit (p .at) (r .read) f (r .items) (r .is) };
+        is = record {
+          inside = h;
+          allowed = record {
+            reading = record { levels = depth-limit; begins = record { read = r .read; rest = r .rest; joined = r .stands .there; long = refl; is = r .is } };
+            shallow = no-deeper depth-limit (p .at) (r .read) f (r .items) (r .is);
+          };
+        };
       }
 
   goes-on : {f : Found} {q : Place} {o : Out Found} → Read-here f q → Tried s q o → Tried s p (then o (λ g e. got (only (f .ranges ⊕ g .ranges)) e))
@@ -86,10 +92,12 @@ run-tried (suc fuel) s p h k = go (λ q. run-tried fuel s q) (leb (length s) (p 
 module _ (s : List ℕ) where
   datagram-read : {at : ℕ} {f : Found} {bytes items : ℕ} (k : ℕ) → Datagram-at s at f bytes items → follow datagram s (place at k) ≡ got f (place (at + bytes) (k + items))
   datagram-read {at} {f} {bytes} {items} k d =
-      let n : length (d .read ++ d .rest) ≡ length s - at = ap length (sym (d .joined)) ∙ length-drop at s in
-      let m = length-append (d .read) (d .rest) in
-      complete datagram s (d .read) (d .rest) f at k items (same-reading (d .levels) depth-limit at (d .read) f items (d .is) (d .shallow)) (record { there = d .joined; fits = omega (arith, n, m, d .inside) })
-      ∙ ap (λ (i : ℕ). got f (place (at + i) (k + items))) (d .long)
+      let r = d .allowed .reading in
+      let b = r .begins in
+      let n : length (b .read ++ b .rest) ≡ length s - at = ap length (sym (b .joined)) ∙ length-drop at s in
+      let m = length-append (b .read) (b .rest) in
+      complete datagram s (b .read) (b .rest) f at k items (same-reading (r .levels) depth-limit at (b .read) f items (b .is) (d .allowed .shallow)) (record { there = b .joined; fits = omega (arith, n, m, d .inside) })
+      ∙ ap (λ (i : ℕ). got f (place (at + i) (k + items))) (b .long)
 
   datagram-in : {at : ℕ} {f : Found} {bytes items : ℕ} → Datagram-at s at f bytes items → at < length s
   datagram-in {at} d = let o = datagram-on depth-limit s (place at 0) (d .inside) (datagram-read 0 d) in omega (arith, o .0, o .1)

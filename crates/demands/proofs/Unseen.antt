@@ -157,15 +157,22 @@ module _ (s t : List ℕ) (i : ℕ) (long : length t ≡ length s) (alike : take
   -- a datagram before i is read alike
   datagram-alike : {at : ℕ} {f : Found} {bytes items : ℕ} → at + bytes ≤ i → Datagram-at s at f bytes items → Datagram-at t at f bytes items
   datagram-alike {at} l d =
+      let b = d .allowed .reading .begins in
       record {
-        levels = d .levels;
-        read = d .read;
-        rest = drop (length (d .read)) (drop at t);
         inside = omega (arith, d .inside, long);
-        joined = same-front (alike-at at (omega arith)) (d .read) (d .rest) (d .joined) (omega (arith, d .long));
-        long = d .long;
-        is = d .is;
-        shallow = d .shallow;
+        allowed = record {
+          reading = record {
+            levels = d .allowed .reading .levels;
+            begins = record {
+              read = b .read;
+              rest = drop (length (b .read)) (drop at t);
+              joined = same-front (alike-at at (omega arith)) (b .read) (b .rest) (b .joined) (omega (arith, b .long));
+              long = b .long;
+              is = b .is;
+            };
+          };
+          shallow = d .allowed .shallow;
+        };
       }
 
   run-alike : {at c n : ℕ} → c ≡ 8 → Run-stops s at c i n → Run-stops t at c i n

@@ -1,14 +1,14 @@
 -- What each answer of field reading says, in the grammar's terms. Definitions only. Assumes nothing.
 use Prim.Native.Nat.{ℕ, _+_, _≤_, _<_}
 use mathlib.Core.Path.{_≡_}
-use mathlib.Core.List.{List, _++_}
+use mathlib.Core.List.{List}
 use lib.ListN.{length, take, drop}
 use Rattle.reading.specs.Script.{Value, bare, Found}
-use Rattle.reading.specs.Grammar.{Is}
 use Rattle.reading.specs.Layout.{Field}
 use Rattle.reading.specs.Values.{zeros, alone}
 use Rattle.reading.specs.Answer.{limit, layout-of, Fields}
 use Rattle.demands.specs.Stops.{Stops}
+use Rattle.demands.specs.Readings.{Begins}
 
 -- the values of a layout, and nothing else
 abbrev pub only-values : List Value → Found
@@ -18,13 +18,9 @@ only-values vs = record { values = vs; ranges = bare }
 abbrev pub no-fields : List Field → (code at steps : ℕ) → Fields
 no-fields l c i n = record { code = c; at = i; steps = n; values = zeros l }
 
--- a reading of layout l by the grammar, from `start` on: b begins with bytes that are the layout, and `rest` is left over
-pub record Fields-reading (l : List Field) (start : ℕ) (b : List ℕ) (vs : List Value) (bytes items : ℕ) : Type 0 where
-  pub read : List ℕ
-  pub rest : List ℕ
-  pub joined : b ≡ read ++ rest
-  pub long : length read ≡ bytes
-  pub is : Is (alone l) start read (only-values vs) items
+-- a reading of layout l by the grammar of b, from `start` on
+abbrev pub Fields-reading : List Field → (start : ℕ) → (b : List ℕ) → List Value → (bytes items : ℕ) → Type 0
+Fields-reading l start b vs = Begins (alone l) start b (only-values vs)
 
 -- what the reading of layout l says that starts at `start`, with b as what encloses it
 pub data Held (l : List Field) (start : ℕ) (b : List ℕ) (a : Fields) : Type 0 where

@@ -22,7 +22,7 @@ pub record Subject : Type 1 where
 
 -- one datagram
 abbrev pub a-datagram : Subject
-a-datagram = record { Finding = Found; Whole = Allowed; Stopped = Stops datagram 0; ranges = λ f. f .ranges; head = λ f. header-of (f .values) }
+a-datagram = record { Finding = Found; Whole = Allowed 0; Stopped = Stops datagram 0; ranges = λ f. f .ranges; head = λ f. header-of (f .values) }
 
 -- a run of them, which has no header
 abbrev pub a-run : Subject

@@ -42,15 +42,19 @@ firsts-before {o = o} (past-it {body} x u y inner rest a m l e f q j r t) = o �
 firsts-before {o = o} (among {body = body} j x y a m l k e f r t) = firsts-of-many j (Is body) (firsts body) o x a m r ++ firsts-before t
 firsts-before {o = o} (past-all {c} {body} x y a m l e f r t) = firsts-of-many c (Is body) (firsts body) o x a m r ++ firsts-before t
 
+-- of each item of a datagram
+abbrev pub firsts-of : {o : ℕ} {b : List ℕ} {f : Found} {bytes items : ℕ} → Allowed o b f bytes items → List ℕ
+firsts-of {o = o} {f = f} {items = items} r = firsts (datagram-to (r .reading .levels)) o (r .reading .begins .read) f items (r .reading .begins .is)
+
 -- of each item of every datagram tried: of a run, and of one that is refused
 unfoldable pub run-firsts : {s : List ℕ} {at end n : ℕ} {g : Forest} → Run s at g end n → List ℕ
 run-firsts (over e f m z) = []
-run-firsts {at = at} (next f bytes items h m d e z t) = firsts (datagram-to (d .levels)) at (d .read) f items (d .is) ++ run-firsts t
+run-firsts (next f bytes items h m d e z t) = firsts-of (d .allowed) ++ run-firsts t
 run-firsts (cut h i t e z) = firsts-before t
 
 unfoldable pub run-firsts-before : {s : List ℕ} {at c i n : ℕ} → Run-stops s at c i n → List ℕ
 run-firsts-before (this h t z) = firsts-before t
-run-firsts-before {at = at} (later f bytes items m d e t) = firsts (datagram-to (d .levels)) at (d .read) f items (d .is) ++ run-firsts-before t
+run-firsts-before (later f bytes items m d e t) = firsts-of (d .allowed) ++ run-firsts-before t
 
 -- positions from lo on, four bytes before each next one and before hi: the four bytes from each on are apart, and lie between lo and hi
 pub data Apart : (lo hi : ℕ) → List ℕ → Type 0 where
@@ -66,7 +70,7 @@ pub record Own (lo hi n : ℕ) (at : List ℕ) : Type 0 where
 pub data Counted (s : List ℕ) : List ℕ → Type 0 where
   too-long : limit < length s → Counted s []
   faulty : {c i n : ℕ} (t : Stops datagram 0 s c i n) → Counted s (firsts-before t)
-  whole : {f : Found} {bytes items : ℕ} (r : Allowed s f bytes items) → Counted s (firsts (datagram-to (r .reading .levels)) 0 (r .reading .read) f items (r .reading .is))
+  whole : {f : Found} {bytes items : ℕ} (r : Allowed 0 s f bytes items) → Counted s (firsts-of r)
 
 pub data Run-counted (s : List ℕ) : List ℕ → Type 0 where
   too-long : limit < length s → Run-counted s []

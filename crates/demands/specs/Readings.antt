@@ -3,21 +3,25 @@ use Prim.Native.Nat.{ℕ}
 use mathlib.Core.Path.{_≡_}
 use mathlib.Core.List.{List, _++_}
 use lib.ListN.{length}
-use Rattle.reading.specs.Script.{Found}
+use Rattle.reading.specs.Script.{Found, Script}
 use Rattle.reading.specs.Grammar.{Is}
 use Rattle.reading.specs.Layout.{depth-limit, datagram-to}
 use Rattle.demands.specs.Depths.{Shallow}
 
--- a reading of s by the grammar, of whatever depth: s begins with bytes that are a datagram, and `rest` is left over
-pub record Reading (s : List ℕ) (f : Found) (bytes items : ℕ) : Type 0 where
-  pub levels : ℕ
+-- b, which starts at o, begins with bytes that are the script, and `rest` is left over
+pub record Begins (sc : Script) (o : ℕ) (b : List ℕ) (f : Found) (bytes items : ℕ) : Type 0 where
   pub read : List ℕ
   pub rest : List ℕ
-  pub joined : s ≡ read ++ rest
+  pub joined : b ≡ read ++ rest
   pub long : length read ≡ bytes
-  pub is : Is (datagram-to levels) 0 read f items
+  pub is : Is sc o read f items
+
+-- a reading by the grammar of b, which starts at o, of whatever depth
+pub record Reading (o : ℕ) (b : List ℕ) (f : Found) (bytes items : ℕ) : Type 0 where
+  pub levels : ℕ
+  pub begins : Begins (datagram-to levels) o b f bytes items
 
 -- a reading, with no record deeper than 8
-pub record Allowed (s : List ℕ) (f : Found) (bytes items : ℕ) : Type 0 where
-  pub reading : Reading s f bytes items
+pub record Allowed (o : ℕ) (b : List ℕ) (f : Found) (bytes items : ℕ) : Type 0 where
+  pub reading : Reading o b f bytes items
   pub shallow : Shallow depth-limit (f .ranges)

@@ -1,24 +1,17 @@
 -- A run of datagrams, as the grammar has it: one after another, each read where the one before ended. Definitions only. Assumes nothing.
 use Prim.Native.Nat.{ℕ, _+_, _≤_, _<_}
 use mathlib.Core.Path.{_≡_}
-use mathlib.Core.List.{List, _++_}
+use mathlib.Core.List.{List}
 use lib.ListN.{length, drop}
 use Rattle.reading.specs.Script.{Forest, bare, _⊕_, Found}
-use Rattle.reading.specs.Grammar.{Is}
-use Rattle.reading.specs.Layout.{depth-limit, datagram-to, datagram}
-use Rattle.demands.specs.Depths.{Shallow}
+use Rattle.reading.specs.Layout.{datagram}
 use Rattle.demands.specs.Stops.{Stops}
+use Rattle.demands.specs.Readings.{Allowed}
 
 -- the grammar reads a datagram at this place of s, with no record deeper than 8
 pub record Datagram-at (s : List ℕ) (at : ℕ) (f : Found) (bytes items : ℕ) : Type 0 where
-  pub levels : ℕ
-  pub read : List ℕ
-  pub rest : List ℕ
   pub inside : at ≤ length s
-  pub joined : drop at s ≡ read ++ rest
-  pub long : length read ≡ bytes
-  pub is : Is (datagram-to levels) at read f items
-  pub shallow : Shallow depth-limit (f .ranges)
+  pub allowed : Allowed at (drop at s) f bytes items
 
 -- a run from this place on that is accepted: its ranges, where it ends, and how many items were read of every datagram tried
 pub data Run (s : List ℕ) : (at : ℕ) → Forest → (end items : ℕ) → Type 0 where
