@@ -38,7 +38,7 @@ use Rattle.demands.proofs.FieldsItemised.{fields-itemised, itemised-onl
 use Rattle.demands.specs.Calls.{Call, Public}
 use Rattle.demands.proofs.Kept.{kept}
 use Rattle.demands.proofs.Calls.{reads, unseen, steps-small, placed, whole-there, framed, payload-there}
-use Rattle.demands.proofs.Impostors.{p2, refuses-all, answers-p2, writes-nothing, own-steps, run-invents}
+use Rattle.demands.proofs.Impostors.{p2, refuses-all, answers-p2, writes-nothing, own-steps, run-invents, refuser, storeless, stepless, refuser-else, storeless-else, stepless-else}
 use Rattle.demands.specs.Frames.{Frame-at, Frame}
 use Rattle.demands.specs.Parts.{Stands-at, Payload-is, Listed-is, Segment-itemised, First-of-segments}
 use Rattle.demands.proofs.Parts.{payload-is, payload-only, opaque-payload, listed-is, listed-only, words-present, segment-is, segment-only, first-segment}
@@ -348,3 +348,13 @@ module _ (f : Call) where
   pub not-run-invents : Accepts-exactly a-run f → (d : Call) → Accepts-exactly a-datagram d → Answers-reading a-datagram d → Counts-items a-datagram d
       → (g : Answer → ℕ → List ℕ → Answer) → ((s w : List ℕ) → f s w ≡ g (d s w) (length s) w) → ⊥
   not-run-invents = run-invents f
+
+-- and to that alone: `decode` with code 2 always, with the store as it was, or with 0 steps meets the other two
+pub refuser-meets-the-others : Answers-reading a-datagram refuser × Counts-items a-datagram refuser
+refuser-meets-the-others = refuser-else
+
+pub storeless-meets-the-others : Accepts-exactly a-datagram storeless × Counts-items a-datagram storeless
+storeless-meets-the-others = storeless-else
+
+pub stepless-meets-the-others : Accepts-exactly a-datagram stepless × Answers-reading a-datagram stepless
+stepless-meets-the-others = stepless-else

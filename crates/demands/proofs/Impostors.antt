@@ -10,10 +10,10 @@ use Rattle.reading.specs.Numbers.{known, header-protocols}
 use Rattle.reading.specs.Cursor.{read-item, follow}
 use Rattle.reading.specs.Layout.{address-of, run-of, field, fields, last-number, opened, flows, flow, samples, datagram-to}
 use Rattle.reading.specs.Answer.{row-words, size, rows, header-of, no-header, Answer, stored, one, tried, datagrams, run}
-use Rattle.demands.specs.Itemised.{Subject, a-datagram, a-run}
+use Rattle.demands.specs.Itemised.{Subject, a-datagram, a-run, Accepted}
 use Rattle.demands.specs.Calls.{Call}
 use Rattle.demands.specs.Demanded.{Accepts-exactly, Answers-reading, Counts-items}
-use Rattle.demands.proofs.Itemised.{Reads, reading-answers, accepted-reads, fits, accepted-only}
+use Rattle.demands.proofs.Itemised.{Reads, reading-answers, accepted-reads, fits, accepts-exactly, counts-items, accepted-only}
 use Rattle.demands.proofs.Accepted.{one-reads}
 use Rattle.demands.proofs.RunItemised.{run-reads}
 
@@ -109,6 +109,35 @@ module _ (f : Call) (exactly : Accepts-exactly a-datagram f) where
       where
         made : (s : List ℕ) → f s lent .code ≡ 0 → one s lent .steps ≡ Made g s (one s lent)
         made s z = let e = accepted-only one-reads answers counts s lent z in ap (λ (a : Answer). a .steps) (sym e) ∙ h s lent ∙ ap (Made g s) e
+
+-- ---- and to no other demand: `decode` with one thing wrong meets the others
+
+-- the code, the steps or the store is another
+abbrev changed : (code : ℕ) → (steps : ℕ) → (store : List ℕ) → Answer → Answer
+changed c n w a = record { code = c; at = a .at; steps = n; needed = a .needed; head = a .head; store = w }
+
+abbrev pub refuser : Call
+refuser s w = changed 2 (one s w .steps) (one s w .store) (one s w)
+
+abbrev pub storeless : Call
+storeless s w = changed (one s w .code) (one s w .steps) w (one s w)
+
+abbrev pub stepless : Call
+stepless s w = changed (one s w .code) 0 (one s w .store) (one s w)
+
+pub refuser-else : Answers-reading a-datagram refuser × Counts-items a-datagram refuser
+refuser-else = (λ s w z. absurd (omega (arith, z)), counts-items one-reads)
+
+pub storeless-else : Accepts-exactly a-datagram storeless × Counts-items a-datagram storeless
+storeless-else = (accepts-exactly one-reads, counts-items one-reads)
+
+pub stepless-else : Accepts-exactly a-datagram stepless × Answers-reading a-datagram stepless
+stepless-else = (accepts-exactly one-reads, λ s w z. go s w (accepted-reads one-reads s w (omega (arith, z))))
+  where
+    go : (s w : List ℕ) → Accepted a-datagram s w (one s w) → Accepted a-datagram s w (stepless s w)
+    go s w k =
+        let b = k .answers in
+        record { short = k .short; found = k .found; end = k .end; items = k .items; reading = k .reading; fits = k .fits; answers = record { code = b .code; at = b .at; needed = b .needed; head = b .head; store = b .store } }
 
 -- ---- a run
 
