@@ -326,7 +326,7 @@ module _ {x : List ℕ} {n : ℕ} (l : Longest x n) where
   pub ill-formed-there : (u v : List ℕ) → drop n x ≡ u ++ v → UTF8-char u → ⊥
   ill-formed-there = no-char-there l
 
--- ==== the impostors (`Impostors`): each falls to the demand that document 01 names for it, whatever else it does
+-- ==== the impostors (`Impostors`): each falls to the demand that document 01 names for it
 module _ (f : Call) where
   -- "exactly when" shuts out a decoder that refuses all, and one that answers P2 always
   pub not-refuses-all : Accepts-exactly a-datagram f → ((s w : List ℕ) → f s w .code ≡ 0 → ⊥) → ⊥

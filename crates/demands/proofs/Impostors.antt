@@ -1,5 +1,5 @@
--- The impostors of document 01: each falls to the demand that is named for it, at an input that is written out and whose reading is computed.
--- Assumes nothing.
+-- The impostors of document 01: each falls to the demand that is named for it, at an input that is written out and whose reading is computed; and three of
+-- them meet the others. Assumes nothing.
 use Prim.Native.Nat.{ℕ, _*_, _/_, _%_, _≤_, _<_}
 use mathlib.Core.Path.{_≡_, refl, sym, ap, _∙_}
 use mathlib.Core.List.{List, [], _∷_, _++_}

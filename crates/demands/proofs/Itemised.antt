@@ -17,7 +17,7 @@ use Rattle.demands.specs.Itemised.{Subject, Answers, Accepted, Itemised,
 use Rattle.demands.specs.Calls.{Call}
 use Rattle.demands.specs.Demanded.{Accepts-exactly, Answers-reading, Counts-items}
 
--- the answer to an outcome: to a finding that the store has room for, to one that it has not, and to a fault
+-- the answer where a finding is accepted
 abbrev taken : (t : Subject) → List ℕ → t .Finding → (end items : ℕ) → Answer
 taken t w x end n =
     record { code = 0; at = end; steps = n; needed = size (t .ranges x); head = t .head x; store = rows 0 nobody (t .ranges x) ++ drop (row-words * size (t .ranges x)) w }
@@ -25,6 +25,7 @@ taken t w x end n =
 taken-answers : (t : Subject) (w : List ℕ) (x : t .Finding) (end n : ℕ) → Answers t w x end (taken t w x end n)
 taken-answers t w x end n = record { code = refl; at = refl; needed = refl; head = refl; store = refl }
 
+-- the answer to an outcome: to a finding that the store has room for, to one that it has not, and to a fault
 unfoldable pub shown : (t : Subject) → Out (t .Finding) → List ℕ → Answer
 shown t (got x q) w = cond (leb (size (t .ranges x)) (room w)) (taken t w x (q .at) (q .steps)) (refused 9 0 (q .steps) (size (t .ranges x)) w)
 shown t (stop c i n) w = refused c i n 0 w
@@ -125,6 +126,7 @@ module _ {t : Subject} {f : Call} (r : Reads t f) where
   pub no-fault : (s : List ℕ) {c i n end m : ℕ} {x : t .Finding} → t .Stopped s c i n → t .Whole s x end m → ⊥
   no-fault s a b = never (sym (r .is-stopped s _ _ _ a) ∙ r .is-read s _ _ _ b)
 
+  -- the code of a fault
   fault-code : (s : List ℕ) {c i n : ℕ} → t .Stopped s c i n → (2 ≤ c) × (c ≤ 8)
   fault-code s k = go (subst Sure (r .is-stopped s _ _ _ k) (r .sure s))
     where
