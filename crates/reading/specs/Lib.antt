@@ -8,3 +8,4 @@ pub mod Layout
 pub mod Values
 pub mod Answer
 pub mod Paper
+pub mod Examples
