@@ -2,16 +2,17 @@
 -- refusal, in which every field has another value, and what is read of it, as one computed fact. Assumes nothing.
 use Prim.Native.Nat.{ℕ, _/_, _%_}
 use mathlib.Core.Path.{_≡_, refl}
+use mathlib.Core.Bool.{Bool, true, false}
 use mathlib.Core.List.{List, [], _∷_, _++_, map}
 use lib.ListN.{length, replicate}
 use Rattle.reading.specs.Bytes.{be4, be8}
 use Rattle.reading.specs.Utf8.{among, utf8, longest-to}
 use Rattle.reading.specs.Numbers.{known, header-protocols}
-use Rattle.reading.specs.Script.{Value, number, octets, address, part}
+use Rattle.reading.specs.Script.{Span, Value, number, octets, address, part}
 use Rattle.reading.specs.Cursor.{read-item, follow}
 use Rattle.reading.specs.Layout.{address-of, run-of, field, fields, last-number, opened, flows, flow, samples, datagram-to}
 use Rattle.reading.specs.Values.{valued, reading}
-use Rattle.reading.specs.Answer.{size, rows, Header, header-of, no-header, Answer, refused, stored, one, layout-of, Fields, answered, read, segment-at}
+use Rattle.reading.specs.Answer.{size, rows, Header, header-of, no-header, Answer, refused, stored, one, tried, datagrams, run, layout-of, Fields, answered, read, Listed, list-word, segment-at, payload-span, whole-span}
 
 -- ---- how an example is written
 
@@ -43,10 +44,12 @@ joined : List (List ℕ) → List ℕ
 joined [] = []
 joined (x ∷ xs) = x ++ joined xs
 
--- what a call answers: the fields of a descriptor, or one datagram
+-- what a call answers: the fields of a descriptor; one datagram, or a run; where a payload lies, or all of a record; a word of a list
 pub data Result : Type 0 where
   of-fields : Fields → Result
   of-input : Answer → Result
+  of-span : Span → Result
+  of-word : Listed → Result
 
 pub record Example : Type 0 where
   pub call : List ℕ → Result
@@ -94,6 +97,32 @@ segment ws c a n vs = record {
   result = of-fields (record { code = c; at = a; steps = n; values = vs });
 }
 
+-- the payload of a descriptor's range, and all of what it is the range of
+pays : (words : List ℕ) → (start extent : ℕ) → (at count : ℕ) → Example
+unfolding around
+pays ws l n a c = record {
+  call = λ s. of-span (payload-span s l n);
+  input = around ws;
+  result = of-span (record { start = a; count = c });
+}
+
+stands : (words : List ℕ) → (start extent first : ℕ) → (at count : ℕ) → Example
+unfolding around
+stands ws l n o a c = record {
+  call = λ s. of-span (whole-span s l n o);
+  input = around ws;
+  result = of-span (record { start = a; count = c });
+}
+
+-- a word of a list
+lists : (words : List ℕ) → (start count index : ℕ) → Bool → (value : ℕ) → Example
+unfolding around
+lists ws l n i there v = record {
+  call = λ s. of-word (list-word s l n i);
+  input = around ws;
+  result = of-word (record { present = there; value = v });
+}
+
 -- a datagram of these words, with a store that its descriptors fill
 decodes : (words : List ℕ) → (at steps needed : ℕ) → Header → List (List ℕ) → Example
 unfolding w joined
@@ -101,6 +130,15 @@ decodes ws a n k head ds = record {
   call = λ s. of-input (one s (replicate (length (joined ds)) 165));
   input = w ws;
   result = of-input (record { code = 0; at = a; steps = n; needed = k; head = head; store = joined ds });
+}
+
+-- the same as a run, which has no header
+runs : (words : List ℕ) → (at steps needed : ℕ) → List (List ℕ) → Example
+unfolding w joined
+runs ws a n k ds = record {
+  call = λ s. of-input (run s (replicate (length (joined ds)) 165));
+  input = w ws;
+  result = of-input (record { code = 0; at = a; steps = n; needed = k; head = no-header; store = joined ds });
 }
 
 -- a datagram of these words that is refused, with a store of so many words, which stay
@@ -115,7 +153,7 @@ stops ws m c a n k = record {
 -- ---- the examples
 
 -- the flow records
-pub flow-records : List Example
+unfoldable pub flow-records : List Example
 unfolding v4 v6 lies accepts
 flow-records =
     -- sampled_header, format 1: protocol, frame_length, stripped, header
@@ -181,7 +219,7 @@ flow-records =
     ∷ []
 
 -- the fields of a sample before its records
-pub sample-fields : List Example
+unfoldable pub sample-fields : List Example
 unfolding accepts
 sample-fields =
     -- flow_sample, format 1: sequence_number, source_id, sampling_rate, sample_pool, drops, input, output, num_records
@@ -202,7 +240,7 @@ sample-fields =
     ∷ []
 
 -- the header of a datagram, by field reading
-pub headers : List Example
+unfoldable pub headers : List Example
 unfolding nowhere v4 v6 accepts
 headers =
     -- header with an address of type 1: version, agent_address, sub_agent_id, sequence_number, uptime, num_samples
@@ -217,7 +255,7 @@ headers =
     ∷ []
 
 -- a segment of an AS path
-pub segments : List Example
+unfoldable pub segments : List Example
 unfolding lies segment
 segments =
     -- a segment of an AS path: type, path
@@ -225,8 +263,38 @@ segments =
     0 20 4 (number 1 ∷ lies 12 2 ∷ [])
     ∷ []
 
+-- a descriptor's payload, and all of its record, as start and count
+unfoldable pub spans : List Example
+unfolding pays stands
+spans =
+    -- the payload of a record: five bytes from byte 12
+    pays (0x11121314 ∷ 0x00000005 ∷ 0x15161718 ∷ 0x19f1f2f3 ∷ [])
+    12 5 12 5
+    -- a range of so many bytes that it passes the input
+    ∷ pays (0x11121314 ∷ 0x00000005 ∷ 0x15161718 ∷ 0x19f1f2f3 ∷ [])
+    12 13 0 0
+    -- all of it: a format word, a length word, the payload and its pad
+    ∷ stands (0x11121314 ∷ 0x00000005 ∷ 0x15161718 ∷ 0x19f1f2f3 ∷ [])
+    12 5 4 4 16
+    -- a first byte that lies behind the start
+    ∷ stands (0x11121314 ∷ 0x00000005 ∷ 0x15161718 ∷ 0x19f1f2f3 ∷ [])
+    12 5 13 0 0
+    ∷ []
+
+-- a word of a list: whether it is there, and its value
+unfoldable pub list-words : List Example
+unfolding lists
+list-words =
+    -- the word with index 1 of a list of two, at byte 8
+    lists (0x00000002 ∷ 0x11121314 ∷ 0x15161718 ∷ [])
+    8 2 1 true 0x15161718
+    -- the word with index 2 of a list of two, at byte 8
+    ∷ lists (0x00000002 ∷ 0x11121314 ∷ 0x15161718 ∷ [])
+    8 2 2 false 0
+    ∷ []
+
 -- refusals of field reading, whose values are all zero: what is left out is an input above the limit, code 1
-pub refusals : List Example
+unfoldable pub refusals : List Example
 unfolding nowhere lies refuses mistakes
 refusals =
     -- extended_switch, format 1001: a word is cut
@@ -348,10 +416,10 @@ refusals =
     10 0 0 (number 0 ∷ number 0 ∷ number 0 ∷ number 0 ∷ [])
     ∷ []
 
--- one datagram: its header by the names of its fields, and what only a whole datagram meets
-pub datagrams : List Example
-unfolding w desc decodes stops
-datagrams =
+-- one datagram, with its header by the names of its fields; and runs
+unfoldable pub inputs : List Example
+unfolding w desc decodes runs
+inputs =
     -- a datagram whose agent has an address of type 1: sub-agent, sequence, uptime, sample count
     decodes (0x00000005 ∷ 0x00000001 ∷ 0x11121314 ∷ 0x15161718 ∷ 0x191a1b1c ∷ 0x1d1e1f20 ∷ 0x00000002 ∷ 0x00001001 ∷ 0x00000001 ∷ 0x71f1f2f3 ∷ 0x00001002 ∷ 0x00000001 ∷ 0x72f1f2f3 ∷ [])
     52 11 3 (record { address-type = 1; address = w (0x11121314 ∷ []) ++ replicate 12 0; sub-agent = 0x15161718; sequence = 0x191a1b1c; uptime = 0x1d1e1f20; sample-count = 2 })
@@ -360,18 +428,30 @@ datagrams =
     ∷ decodes (0x00000005 ∷ 0x00000002 ∷ 0x11121314 ∷ 0x15161718 ∷ 0x191a1b1c ∷ 0x1d1e1f20 ∷ 0x21222324 ∷ 0x25262728 ∷ 0x292a2b2c ∷ 0x00000003 ∷ 0x00001001 ∷ 0x00000001 ∷ 0x71f1f2f3 ∷ 0x00001002 ∷ 0x00000001 ∷ 0x72f1f2f3 ∷ 0x00001003 ∷ 0x00000001 ∷ 0x73f1f2f3 ∷ [])
     76 13 4 (record { address-type = 2; address = w (0x11121314 ∷ 0x15161718 ∷ 0x191a1b1c ∷ 0x1d1e1f20 ∷ []); sub-agent = 0x21222324; sequence = 0x25262728; uptime = 0x292a2b2c; sample-count = 3 })
     (desc 0 0 0 76 4294967295 0 0 ∷ desc 1 4097 48 1 0 0 40 ∷ desc 1 4098 60 1 0 0 52 ∷ desc 1 4099 72 1 0 0 64 ∷ [])
-    -- no room: the store has a word less than its two descriptors take
-    ∷ stops (0x00000005 ∷ 0x00000001 ∷ 0x11121314 ∷ 0x15161718 ∷ 0x191a1b1c ∷ 0x1d1e1f20 ∷ 0x00000001 ∷ 0x00001001 ∷ 0x00000001 ∷ 0x71f1f2f3 ∷ [])
+    -- the first of these as a run
+    ∷ runs (0x00000005 ∷ 0x00000001 ∷ 0x11121314 ∷ 0x15161718 ∷ 0x191a1b1c ∷ 0x1d1e1f20 ∷ 0x00000002 ∷ 0x00001001 ∷ 0x00000001 ∷ 0x71f1f2f3 ∷ 0x00001002 ∷ 0x00000001 ∷ 0x72f1f2f3 ∷ [])
+    52 11 3 (desc 0 0 0 52 4294967295 0 0 ∷ desc 1 4097 36 1 0 0 28 ∷ desc 1 4098 48 1 0 0 40 ∷ [])
+    -- the same, and behind it the first word of another, which ends the run
+    ∷ runs (0x00000005 ∷ 0x00000001 ∷ 0x11121314 ∷ 0x15161718 ∷ 0x191a1b1c ∷ 0x1d1e1f20 ∷ 0x00000002 ∷ 0x00001001 ∷ 0x00000001 ∷ 0x71f1f2f3 ∷ 0x00001002 ∷ 0x00000001 ∷ 0x72f1f2f3 ∷ 0x00000005 ∷ [])
+    52 12 3 (desc 0 0 0 52 4294967295 0 0 ∷ desc 1 4097 36 1 0 0 28 ∷ desc 1 4098 48 1 0 0 40 ∷ [])
+    ∷ []
+
+-- refusals that only a datagram meets
+unfoldable pub undecoded : List Example
+unfolding stops
+undecoded =
+    -- no room: the store has a word less than two descriptors take
+    stops (0x00000005 ∷ 0x00000001 ∷ 0x11121314 ∷ 0x15161718 ∷ 0x191a1b1c ∷ 0x1d1e1f20 ∷ 0x00000001 ∷ 0x00001001 ∷ 0x00000001 ∷ 0x71f1f2f3 ∷ [])
     13 9 0 9 2
-    -- a record would begin at depth 9
+    -- a record would begin at depth 9: eight aggregations, each in the other's PDU
     ∷ stops (0x00000005 ∷ 0x00000001 ∷ 0x11121314 ∷ 0x15161718 ∷ 0x191a1b1c ∷ 0x1d1e1f20 ∷ 0x00000001 ∷ 0x00000001 ∷ 0x000000a0 ∷ 0x11121314 ∷ 0x15161718 ∷ 0x191a1b1c ∷ 0x1d1e1f20 ∷ 0x21222324 ∷ 0x25262728 ∷ 0x292a2b2c ∷ 0x00000001 ∷ 0x000003f8 ∷ 0x00000078 ∷ 0x00000001 ∷ 0x00000001 ∷ 0x000003f8 ∷ 0x00000068 ∷ 0x00000001 ∷ 0x00000001 ∷ 0x000003f8 ∷ 0x00000058 ∷ 0x00000001 ∷ 0x00000001 ∷ 0x000003f8 ∷ 0x00000048 ∷ 0x00000001 ∷ 0x00000001 ∷ 0x000003f8 ∷ 0x00000038 ∷ 0x00000001 ∷ 0x00000001 ∷ 0x000003f8 ∷ 0x00000028 ∷ 0x00000001 ∷ 0x00000001 ∷ 0x000003f8 ∷ 0x00000018 ∷ 0x00000001 ∷ 0x00000001 ∷ 0x000003f8 ∷ 0x00000008 ∷ 0x00000001 ∷ 0x00000001 ∷ [])
     200 8 196 49 0
     ∷ []
 
 pub examples : List Example
-unfolding flow-records sample-fields headers segments refusals datagrams
-examples = flow-records ++ sample-fields ++ headers ++ segments ++ refusals ++ datagrams
+unfolding flow-records sample-fields headers segments spans list-words refusals inputs undecoded
+examples = flow-records ++ sample-fields ++ headers ++ segments ++ spans ++ list-words ++ refusals ++ inputs ++ undecoded
 
 pub the-examples-hold : map (λ (e : Example). e .call (e .input)) examples ≡ map (λ (e : Example). e .result) examples
-unfolding examples be4 be8 among utf8 longest-to known header-protocols follow read-item address-of run-of field fields last-number opened flows flow samples datagram-to size rows header-of no-header valued reading layout-of answered read segment-at stored one
+unfolding examples be4 be8 among utf8 longest-to known header-protocols follow read-item address-of run-of field fields last-number opened flows flow samples datagram-to size rows header-of no-header valued reading layout-of answered read segment-at stored one tried datagrams run list-word payload-span whole-span
 the-examples-hold = refl
