@@ -1,8 +1,8 @@
-// Decodes stored inputs, and prints a line for each: the call, its answer, and what it left in the store. The lines that are expected
-// were written by the oracle (tests/replay/make).
+// Decodes stored inputs, and prints a line for each: the call, its answer, and what it left in the store, or the fields of each
+// descriptor there. The lines that are expected were written by the oracle (tests/replay/make).
 //
-// A case is five bytes and what they announce: 'o' for one datagram or 'r' for a run of them, how many words of store are lent, and
-// how many bytes follow, two bytes each; then those bytes.
+// A case is five bytes and what they announce: 'o' for one datagram, 'f' for one with the fields of its descriptors, or 'r' for a run of
+// them, how many words of store are lent, and how many bytes follow, two bytes each; then those bytes.
 ghost use Prim.Native.Nat.{_≤_, _<_};
 ghost use mathlib.Core.Path.{_≡_};
 ghost use lib.ListN.{length};
@@ -10,7 +10,11 @@ use datagram::decode::decode;
 use datagram::run::decode_run;
 use libc::STDIN_FILENO;
 
+mod each;
+mod heads;
 mod print;
+mod records;
+mod values;
 
 fn one(s: &[u8], store: &mut [u32]) {
     let decoded = decode(s, &mut *store);
@@ -24,6 +28,14 @@ fn one(s: &[u8], store: &mut [u32]) {
     print::word(b",", decoded.uptime);
     print::word(b",", decoded.num_samples);
     print::left(answer, &*store);
+}
+
+fn with_fields(s: &[u8], store: &mut [u32]) {
+    let decoded = decode(s, &mut *store);
+    let answer = decoded.answer;
+    out::text(b"fields");
+    print::answer(answer);
+    each::left(s, answer, &*store);
 }
 
 fn run(s: &[u8], store: &mut [u32]) {
@@ -47,6 +59,8 @@ fn call(letter: u8, s: &[u8], words: usize)
     let mut store = lent();
     if letter == b'o' {
         one(s, &mut store[..words]);
+    } else if letter == b'f' {
+        with_fields(s, &mut store[..words]);
     } else {
         run(s, &mut store[..words]);
     }

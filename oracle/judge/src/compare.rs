@@ -366,21 +366,9 @@ impl Judge {
     /// Whether a field that the library answers is the one that the crate holds.
     fn holds(&self, data: &[u8], value: Value, held: &Held) -> bool {
         match (value, held) {
-            (Value::Word(word), Held::Word(own)) => word == *own,
-            (Value::Word(word), Held::Protocol(own)) => word == *own as u32,
-            (Value::Word(word), Held::Reason(own)) => {
-                let listed = matches!(word, 0..=15 | 256..=303);
-                is_named(word, listed, *own as u32, DropReason::Unknown as u32)
-            }
-            (Value::Word(word), Held::Direction(own)) => is_named(word, matches!(word, 1 | 2), *own as u32, UrlDirection::Source as u32),
-            (Value::Long(long), Held::Long(own)) => long == *own,
-            (Value::Block(bytes, 6), Held::Six(own)) => bytes[..6] == *own,
-            (Value::Block(bytes, 16), Held::Sixteen(own)) => bytes == *own,
-            (Value::Address(..), Held::Address(own)) => value == structure::address(own),
-            (Value::Span(start, count), Held::Bytes(own)) => data.get(start..start + count) == Some(*own),
             (Value::Span(start, count), Held::Words(own)) => self.is_list(data, start, count, own),
             (Value::Span(start, count), Held::Path(own)) => self.is_path(data, start, count, own),
-            _ => false,
+            _ => holds_alone(data, value, held),
         }
     }
 
@@ -422,8 +410,27 @@ pub fn show(data: &[u8], fault: u32) {
     println!("crate: {:?}; as a run {:?}", parse_datagram(data), parse_datagrams(data).map(|all| all.len()));
 }
 
+/// Whether a field that is no list is the one that the crate holds.
+pub fn holds_alone(data: &[u8], value: Value, held: &Held) -> bool {
+    match (value, held) {
+        (Value::Word(word), Held::Word(own)) => word == *own,
+        (Value::Word(word), Held::Protocol(own)) => word == *own as u32,
+        (Value::Word(word), Held::Reason(own)) => {
+            let listed = matches!(word, 0..=15 | 256..=303);
+            is_named(word, listed, *own as u32, DropReason::Unknown as u32)
+        }
+        (Value::Word(word), Held::Direction(own)) => is_named(word, matches!(word, 1 | 2), *own as u32, UrlDirection::Source as u32),
+        (Value::Long(long), Held::Long(own)) => long == *own,
+        (Value::Block(bytes, 6), Held::Six(own)) => bytes[..6] == *own,
+        (Value::Block(bytes, 16), Held::Sixteen(own)) => bytes == *own,
+        (Value::Address(..), Held::Address(own)) => value == structure::address(own),
+        (Value::Span(start, count), Held::Bytes(own)) => data.get(start..start + count) == Some(*own),
+        _ => false,
+    }
+}
+
 /// Whether a number is the one that the crate holds by name; its catch-all case matches every number that its table lacks.
-fn is_named(word: u32, listed: bool, own: u32, catch_all: u32) -> bool {
+pub fn is_named(word: u32, listed: bool, own: u32, catch_all: u32) -> bool {
     own == if listed { word } else { catch_all }
 }
 

@@ -1,22 +1,31 @@
 //! Inputs with their answers, for a program that replays them where no Rust is at hand: crates/replay. What the crate tells (acceptance,
-//! the kind of refusal, where in a string it stops being UTF-8, the header, each descriptor's kind, format, parent and depth, the payload
-//! of what is kept raw) is the crate's; other positions, steps, ranges, first bytes and depth 9 are document 01's reading. The library has
-//! no part in them.
+//! the kind of refusal, where in a string it stops being UTF-8, the header, each descriptor's kind, format, parent and depth, its fields, the
+//! payload of what is kept raw) is the crate's; other positions, steps, ranges, first bytes and depth 9 are document 01's reading. The
+//! library has no part in them.
 
-use crate::compare::{brought_inside, reading_of, theirs, Judge};
+use crate::compare::{brought_inside, holds_alone, is_named, reading_of, theirs, Judge};
 use crate::make;
-use crate::paper::Reading;
-use crate::shape::DESCRIPTOR_WORDS;
-use crate::structure;
+use crate::paper::{self, Reading};
+use crate::shape::{layout_of, row_of, Descriptor, DESCRIPTOR_WORDS, LAYOUTS};
+use crate::structure::{self, Held, Node};
 use crate::tally::{same, Checked, Difference, Key, Tally};
 use crate::value::Value;
 use sflow_parser::models::core::SFlowDatagram;
+use sflow_parser::models::record_flows::{AsPathSegment, AsPathType};
 use std::collections::BTreeMap;
 use std::fmt::Write;
 
-/// A call: one datagram or a run, so many words of store, and the bytes.
+/// What is asked of an input: one datagram, one with the fields of its descriptors, or a run.
+#[derive(Clone, Copy, PartialEq)]
+enum Call {
+    One,
+    Fields,
+    Run,
+}
+
+/// A call, so many words of store, and the bytes.
 pub struct Case {
-    run: bool,
+    call: Call,
     words: usize,
     data: Vec<u8>,
 }
@@ -45,8 +54,46 @@ fn agrees(data: &[u8], reading: &Reading, datagrams: &[SFlowDatagram]) -> Checke
         if let Some(raw) = node.raw {
             same("document 01 and the crate: payload", &&data[start..start + length], &raw)?;
         }
+        fields_agree(data, descriptor, node)?;
     }
     Ok(())
+}
+
+/// Whether the crate's fields are those that document 01 reads.
+fn fields_agree(data: &[u8], descriptor: &Descriptor, node: &Node) -> Checked {
+    let Some(layout) = layout_of(node.kind, node.format) else {
+        return Ok(());
+    };
+    let name = format!("document 01 and the crate: fields of {}/{}", node.kind, node.format);
+    let ((code, ..), values) = paper::fields(data, descriptor, layout);
+    same(&name, &(code, values.len()), &(0, node.held.len()))?;
+    for (index, (value, held)) in values.iter().zip(&node.held).enumerate() {
+        let alike = match (*value, held) {
+            (Value::Span(start, count), Held::Words(own)) => is_list(data, start, count, own),
+            (Value::Span(start, count), Held::Path(own)) => is_path(data, start, count, own),
+            (value, held) => holds_alone(data, value, held),
+        };
+        same(&format!("{name}, {index}"), &alike, &true)?;
+    }
+    Ok(())
+}
+
+fn is_list(data: &[u8], start: usize, count: usize, own: &[u32]) -> bool {
+    let bytes: Vec<u8> = own.iter().flat_map(|word| word.to_be_bytes()).collect();
+    count == own.len() && data.get(start..start + bytes.len()) == Some(&bytes[..])
+}
+
+fn is_path(data: &[u8], start: usize, count: usize, own: &[AsPathSegment]) -> bool {
+    let mut at = start;
+    for segment in own {
+        let ((code, end, _), kind, (first, words)) = paper::segment(data, at);
+        let named = is_named(kind, matches!(kind, 1 | 2), segment.path_type as u32, AsPathType::AsSet as u32);
+        if code != 0 || !named || !is_list(data, first, words, &segment.path) {
+            return false;
+        }
+        at = end;
+    }
+    count == own.len()
 }
 
 /// Document 01's answer, once the crate has been asked. Only depth 9 is document 01's alone.
@@ -78,8 +125,7 @@ fn put_header(line: &mut String, values: &[Value]) {
     for value in if values.is_empty() { &none } else { values } {
         match value {
             Value::Address(kind, bytes) => {
-                let hex: String = bytes.iter().map(|byte| format!("{byte:02x}")).collect();
-                let _ = write!(line, " header={kind},{hex}");
+                let _ = write!(line, " header={kind},{}", hex(bytes));
             }
             Value::Word(word) => {
                 let _ = write!(line, ",{word}");
@@ -89,17 +135,41 @@ fn put_header(line: &mut String, values: &[Value]) {
     }
 }
 
+fn hex(bytes: &[u8]) -> String {
+    bytes.iter().map(|byte| format!("{byte:02x}")).collect()
+}
+
+/// The field reading of a descriptor: code, position and steps, and each value behind a space.
+fn put_fields(line: &mut String, data: &[u8], descriptor: &Descriptor) {
+    let Some(layout) = layout_of(descriptor[0], descriptor[1]) else { return };
+    let ((code, at, steps), values) = paper::fields(data, descriptor, layout);
+    let _ = write!(line, "; {code},{at},{steps}");
+    for value in values {
+        let _ = match value {
+            Value::Word(word) => write!(line, " {word}"),
+            Value::Long(long) => write!(line, " {long}"),
+            Value::Block(bytes, count) => write!(line, " {}", hex(&bytes[..count])),
+            Value::Address(kind, bytes) => write!(line, " {kind}/{}", hex(&bytes)),
+            Value::Span(start, count) => write!(line, " {start}+{count}"),
+        };
+    }
+}
+
 impl Case {
     /// With room for all and `spare` words besides; or with too little, by one word up to those of a descriptor.
-    fn new(data: &[u8], run: bool, enough: bool, spare: usize) -> Self {
-        let all = reading_of(data, run).store.len() * DESCRIPTOR_WORDS;
+    fn new(data: &[u8], call: Call, enough: bool, spare: usize) -> Self {
+        let all = reading_of(data, call == Call::Run).store.len() * DESCRIPTOR_WORDS;
         let words = if enough || all == 0 { all + spare } else { all - 1 - spare % DESCRIPTOR_WORDS };
-        Case { run, words, data: data.to_vec() }
+        Case { call, words, data: data.to_vec() }
     }
 
     /// As the program reads it.
     pub fn put(&self, out: &mut Vec<u8>) {
-        out.push(if self.run { b'r' } else { b'o' });
+        out.push(match self.call {
+            Call::One => b'o',
+            Call::Fields => b'f',
+            Call::Run => b'r',
+        });
         for number in [self.words, self.data.len()] {
             out.extend_from_slice(&u16::try_from(number).expect("a case is short").to_be_bytes());
         }
@@ -108,13 +178,22 @@ impl Case {
 
     /// What the program must print.
     pub fn line(&self) -> Result<String, Difference> {
-        let Answer { reading, header } = agreed(&self.data, self.run)?;
+        let Answer { reading, header } = agreed(&self.data, self.call == Call::Run)?;
         let needed = reading.store.len();
         let lacks = reading.code == 0 && needed > self.words / DESCRIPTOR_WORDS;
         let (code, at) = if lacks { (9, 0) } else { (reading.code, reading.at) };
         let (store, header) = if lacks { (&[][..], &[][..]) } else { (&reading.store[..], &header[..]) };
-        let mut line = format!("{} code={code} at={at} steps={} needed={needed}", if self.run { "run" } else { "one" }, reading.steps);
-        if !self.run {
+        let name = match self.call {
+            Call::One => "one",
+            Call::Fields => "fields",
+            Call::Run => "run",
+        };
+        let mut line = format!("{name} code={code} at={at} steps={} needed={needed}", reading.steps);
+        if self.call == Call::Fields {
+            store.iter().for_each(|descriptor| put_fields(&mut line, &self.data, descriptor));
+            return Ok(line + "\n");
+        }
+        if self.call == Call::One {
             put_header(&mut line, header);
         }
         let _ = write!(line, " kept={}", self.words - store.len() * DESCRIPTOR_WORDS);
@@ -154,17 +233,42 @@ fn chosen(seed: u64) -> (Vec<Vec<u8>>, Tally) {
     (inputs, all)
 }
 
-/// The cases: the given inputs as one datagram and as a run, and the chosen ones each in one way. With what the chosen ones reach.
+/// A chosen input has its fields read where it has a descriptor of a layout that fewer than so many before it have.
+const FIELDED: usize = 6;
+
+/// The inputs whose fields are read: those given that are accepted, and of the chosen ones some of every layout.
+fn fielded<'a>(given: &'a [Vec<u8>], chosen: &'a [Vec<u8>]) -> Vec<&'a [u8]> {
+    let mut counts = [0; LAYOUTS.len()];
+    let mut all = Vec::new();
+    for (data, always) in given.iter().map(|data| (data, true)).chain(chosen.iter().map(|data| (data, false))) {
+        let reading = reading_of(data, false);
+        let rows: Vec<usize> = reading.store.iter().filter_map(|[kind, format, ..]| row_of(*kind, *format)).collect();
+        if reading.code == 0 && (always || rows.iter().any(|row| counts[*row] < FIELDED)) {
+            if !always {
+                rows.iter().for_each(|row| counts[*row] += 1);
+            }
+            all.push(&data[..]);
+        }
+    }
+    all
+}
+
+/// The cases: the given inputs as one datagram and as a run, the chosen ones each in one way, and some of both with their fields. With what
+/// the chosen ones reach.
 pub fn cases(seed: u64, given: &[Vec<u8>]) -> (Vec<Case>, Tally) {
     let mut all = Vec::new();
     for (n, data) in given.iter().enumerate() {
-        all.extend([false, true].map(|run| Case::new(data, run, n % 8 != 7, n % SPARE)));
+        all.extend([Call::One, Call::Run].map(|call| Case::new(data, call, n % 8 != 7, n % SPARE)));
     }
     let (inputs, tally) = chosen(seed);
     for (n, data) in inputs.iter().enumerate() {
         let one = reading_of(data, false);
         let several = one.code == 0 && one.at < data.len();
-        all.push(Case::new(data, several || n % 4 == 3, n % 8 != 5, n % SPARE));
+        let call = if several || n % 4 == 3 { Call::Run } else { Call::One };
+        all.push(Case::new(data, call, n % 8 != 5, n % SPARE));
+    }
+    for (n, data) in fielded(given, &inputs).into_iter().enumerate() {
+        all.push(Case::new(data, Call::Fields, n % 16 != 15, n % SPARE));
     }
     (all, tally)
 }

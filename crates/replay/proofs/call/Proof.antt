@@ -14,8 +14,12 @@ call-spec =
     (λ c. simp length-take (omega arith))  -- slice-aggregate-one
     (λ c κs. search needs)  -- one-requires
     (λ c. search needs)  -- array-borrow-prefix-store-2
+    (λ c. simp length-take (omega arith))  -- slice-aggregate-with-fields
+    (λ c κs. search needs)  -- with-fields-requires
+    (λ c. search needs)  -- array-borrow-prefix-store-3
     (λ c. simp length-take (omega arith))  -- slice-aggregate-run
     (λ c κs. search needs)  -- run-requires
     (λ c. search needs)  -- returns
     (λ c. search needs)  -- returns-2
+    (λ c. search needs)  -- returns-3
     )

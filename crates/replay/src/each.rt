@@ -1,0 +1,119 @@
+// The fields of each descriptor that a call left, by the field reading of its kind and format; those that stay raw, and PDUs, have none.
+ghost use Prim.Native.Nat.{_+_, _*_, _≤_};
+ghost use mathlib.Core.Path.{_≡_};
+ghost use lib.ListN.{length};
+ghost use Rattle.reading.specs.Answer.{row-words};
+use crate::heads;
+use crate::records;
+use datagram::decode::Answer;
+use flows::put::DESCRIPTOR_WORDS;
+use flows::put::Descriptor;
+use numbers::DataFormat;
+
+fn wireless(s: &[u8], d: Descriptor, format: u32) {
+    match format {
+        1013 => records::extended_80211_payload(s, d),
+        1014 => records::extended_80211_rx(s, d),
+        1015 => records::extended_80211_tx(s, d),
+        1016 => records::extended_80211_aggregation(s, d),
+        _ => {}
+    }
+}
+
+fn extended(s: &[u8], d: Descriptor, format: u32) {
+    match format {
+        1001 => records::extended_switch(s, d),
+        1002 => records::extended_router(s, d),
+        1003 => records::extended_gateway(s, d),
+        1004 => records::extended_user(s, d),
+        1005 => records::extended_url(s, d),
+        1006 => records::extended_mpls(s, d),
+        1007 => records::extended_nat(s, d),
+        1008 => records::extended_mpls_tunnel(s, d),
+        1009 => records::extended_mpls_vc(s, d),
+        1010 => records::extended_mpls_fec(s, d),
+        1011 => records::extended_mpls_lvp_fec(s, d),
+        1012 => records::extended_vlan_tunnel(s, d),
+        _ => wireless(s, d, format),
+    }
+}
+
+fn flow_record(s: &[u8], d: Descriptor, format: u32) {
+    match format {
+        1 => records::sampled_header(s, d),
+        2 => records::sampled_ethernet(s, d),
+        3 => records::sampled_ipv4(s, d),
+        4 => records::sampled_ipv6(s, d),
+        _ => extended(s, d, format),
+    }
+}
+
+fn sample(s: &[u8], d: Descriptor, format: u32) {
+    match format {
+        1 => heads::flow_sample(s, d),
+        2 => heads::counters_sample(s, d),
+        3 => heads::flow_sample_expanded(s, d),
+        4 => heads::counters_sample_expanded(s, d),
+        5 => heads::discarded_packet(s, d),
+        _ => {}
+    }
+}
+
+fn descriptor(s: &[u8], d: Descriptor) {
+    let format = d.format.0;
+    let kind = d.kind;
+    match kind {
+        0 => heads::header(s, d),
+        1 => sample(s, d, format),
+        2 => flow_record(s, d, format),
+        _ => {}
+    }
+}
+
+// The descriptor whose first word is at `at`.
+fn descriptor_at(store: &[u32], at: usize) -> Descriptor
+    requires { ⌜ at + row-words ≤ length (now store) ⌝ }
+{
+    Descriptor {
+        kind: store[at],
+        format: DataFormat(store[at + 1]),
+        start: store[at + 2],
+        length: store[at + 3],
+        parent: store[at + 4],
+        depth: store[at + 5],
+        first: store[at + 6],
+    }
+}
+
+// The first n descriptors.
+fn descriptors(s: &[u8], store: &[u32], n: usize)
+    requires { ⌜ row-words * n ≤ length (now store) ⌝ }
+{
+    let mut i = 0;
+    while i < n {
+        let d = descriptor_at(store, DESCRIPTOR_WORDS * i);
+        descriptor(s, d);
+        i += 1;
+    }
+}
+
+// The end of a line: the fields of the first n descriptors.
+fn line(s: &[u8], store: &[u32], n: usize)
+    requires { ⌜ row-words * n ≤ length (now store) ⌝ }
+{
+    descriptors(s, store, n);
+    out::text(b"\n");
+}
+
+// The descriptors that a call leaves: there are some where the code is 0.
+pub fn left(s: &[u8], a: Answer, store: &[u32])
+    requires { ⌜ (a .code ≡ 0 → row-words * a .needed ≤ length (now store)) ⌝ }
+{
+    let code = a.code;
+    let n = a.needed;
+    if code == 0 {
+        line(s, store, n);
+    } else {
+        line(s, store, 0);
+    }
+}
