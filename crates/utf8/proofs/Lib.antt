@@ -4,3 +4,4 @@ pub mod Bytes
 pub mod Whole
 pub mod Highs
 pub mod Skips
+pub mod Contracts

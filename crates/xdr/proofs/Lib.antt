@@ -6,3 +6,6 @@ pub mod Fixed
 pub mod Rows
 pub mod Signed
 pub mod Ends
+pub mod Settles
+pub mod Lossless
+pub mod Contracts
