@@ -2,4 +2,5 @@ pub mod Version
 pub mod Deciding
 pub mod Judging
 pub mod Running
-pub mod Unique
+pub mod Lossless
+pub mod Contracts

@@ -1,3 +1,4 @@
 pub mod Asking
 pub mod Slices
-pub mod Unique
+pub mod Lossless
+pub mod Contracts
