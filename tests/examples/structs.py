@@ -60,7 +60,7 @@ def of_body(prefix, body):
     return read_struct('%s-%d' % (prefix, body.format), camel(body.name), body.module, dashed(body.name), named(body), struct_of(body))
 
 
-def crate_text(crate, about, structs, tables, uses, more=''):
+def crate_text(crate, about, structs, tables, uses, more='', unfolded=''):
     """A crate's file: the records one by one, and that they show what `reading` has for these tables of examples."""
     text = '-- Made by tests/examples/make, from the memo\'s structures: %s by the names of their fields, as the\n' % about
     text += '-- examples of `reading` have them. Assumes nothing.\n'
@@ -75,7 +75,7 @@ def crate_text(crate, about, structs, tables, uses, more=''):
     text += '\n-- what they are in the terms of the reading\npub shown : List Result\nunfolding %s\nshown =\n' % ' '.join(s.name for s in structs)
     text += '\n'.join('    %s%s' % ('∷ ' if i else '', s.result) for i, s in enumerate(structs)) + '\n    ∷ []\n'
     text += '\npub the-names-hold : shown ≡ map (λ (e : Example). e .result) %s\nunfolding shown %s\nthe-names-hold = refl\n' % (
-        '(%s)' % ' ++ '.join(tables) if len(tables) > 1 else tables[0], ' '.join(tables))
+        '(%s)' % ' ++ '.join(tables) if len(tables) > 1 else tables[0], ' '.join(tables) + unfolded)
     return text + more
 
 
@@ -137,7 +137,8 @@ def datagram_text():
         store = antt_list([str(n) for row in d.store for n in row])
         structs.append(Struct(name, 'Answer', 'decode', 'of-input (ran %s %s)' % (name, store), about, answer_of(d)))
     return crate_text('datagram', "a datagram's header and the answers to the calls", structs, ['headers', 'inputs'],
-                      shown_uses('datagram', ['header-fields', 'decoded', 'ran']))
+                      'use Rattle.reading.specs.Answer.{header-of, no-header}\n' + shown_uses('datagram', ['header-fields', 'decoded', 'ran']),
+                      unfolded=' header-of no-header')
 
 
 def fields_text():

@@ -3,6 +3,7 @@
 use mathlib.Core.Path.{_≡_, refl}
 use mathlib.Core.List.{List, [], _∷_, _++_, map}
 use Rattle.reading.specs.Examples.{Result, of-fields, of-input, Example, headers, inputs}
+use Rattle.reading.specs.Answer.{header-of, no-header}
 use Rattle.xdr.specs.Shown.{answer-of}
 use Rattle.datagram.specs.Shown.{header-fields, decoded, ran}
 use Rattle.datagram.specs.declared.header.Header.{Header}
@@ -51,5 +52,5 @@ shown =
     ∷ []
 
 pub the-names-hold : shown ≡ map (λ (e : Example). e .result) (headers ++ inputs)
-unfolding shown headers inputs
+unfolding shown headers inputs header-of no-header
 the-names-hold = refl

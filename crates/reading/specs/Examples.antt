@@ -12,7 +12,7 @@ use Rattle.reading.specs.Script.{Span, Value, number, octets, address, p
 use Rattle.reading.specs.Cursor.{read-item, follow}
 use Rattle.reading.specs.Layout.{address-of, run-of, field, fields, last-number, opened, flows, flow, samples, datagram-to}
 use Rattle.reading.specs.Values.{valued, reading}
-use Rattle.reading.specs.Answer.{size, rows, Header, header-of, no-header, Answer, refused, stored, one, tried, datagrams, run, layout-of, Fields, answered, read, Listed, list-word, segment-at, payload-span, whole-span}
+use Rattle.reading.specs.Answer.{size, rows, Header, header-of, no-header, Answer, stored, one, tried, datagrams, run, layout-of, Fields, answered, read, Listed, list-word, segment-at, payload-span, whole-span}
 
 -- ---- how an example is written
 
@@ -43,6 +43,10 @@ desc k f s l p e o = k ∷ f ∷ s ∷ l ∷ p ∷ e ∷ o ∷ []
 joined : List (List ℕ) → List ℕ
 joined [] = []
 joined (x ∷ xs) = x ++ joined xs
+
+-- the header of a refusal, and of a run
+blank : Header
+blank = record { address-type = 0; address = replicate 16 0; sub-agent = 0; sequence = 0; uptime = 0; sample-count = 0 }
 
 -- what a call answers: the fields of a descriptor; one datagram, or a run; where a payload lies, or all of a record; a word of a list
 pub data Result : Type 0 where
@@ -134,20 +138,20 @@ decodes ws a n k head ds = record {
 
 -- the same as a run, which has no header
 runs : (words : List ℕ) → (at steps needed : ℕ) → List (List ℕ) → Example
-unfolding w joined
+unfolding w joined blank
 runs ws a n k ds = record {
   call = λ s. of-input (run s (replicate (length (joined ds)) 165));
   input = w ws;
-  result = of-input (record { code = 0; at = a; steps = n; needed = k; head = no-header; store = joined ds });
+  result = of-input (record { code = 0; at = a; steps = n; needed = k; head = blank; store = joined ds });
 }
 
 -- a datagram of these words that is refused, with a store of so many words, which stay
 stops : (words : List ℕ) → (room code at steps needed : ℕ) → Example
-unfolding w
+unfolding w blank
 stops ws m c a n k = record {
   call = λ s. of-input (one s (replicate m 165));
   input = w ws;
-  result = of-input (refused c a n k (replicate m 165));
+  result = of-input (record { code = c; at = a; steps = n; needed = k; head = blank; store = replicate m 165 });
 }
 
 -- ---- the examples
