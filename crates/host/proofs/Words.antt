@@ -1,11 +1,12 @@
--- A descriptor that is handed over by its words. Assumes nothing.
+-- A descriptor that is handed over by its words; and that those which a call leaves in the store are such words. Assumes nothing.
 use Prim.Native.Nat.{ℕ}
-use mathlib.Core.Path.{_≡_}
+use mathlib.Core.Path.{_≡_, refl}
 use mathlib.Core.List.{List}
 use borrow.Author.Needs.{needs}
 use lib.ListN.{getD}
 use Rattle.reading.specs.Script as script
-use Rattle.reading.specs.Answer.{Fields, payload-span, whole-span}
+use Rattle.reading.specs.Script.{Range}
+use Rattle.reading.specs.Answer.{row-of, Fields, read, payload-span, whole-span}
 use Rattle.flows.specs.declared.put.Descriptor.{Descriptor}
 use Rattle.fields.specs.Shown.{read-of}
 use Rattle.host.specs.Shown.{Has-words, read-at}
@@ -21,3 +22,20 @@ module _ (s w : List ℕ) (d : Descriptor) (e : Has-words w d) where
   whole-by-words h = rw (← e .start, ← e .extent, ← e .first) h
 
 pub ruleset words = (by-words, span-by-words, whole-by-words, needs)
+
+-- the words of a range in the store, whose parent has index p, are its descriptor's
+module _ (p : ℕ) (r : Range) where
+  pub stored-descriptor : Has-words (row-of p r) (record {
+    kind = r .kind;
+    format = record { 0 = r .format };
+    start = r .span .start;
+    length = r .span .count;
+    parent = p;
+    depth = r .depth;
+    first = r .first;
+  })
+  stored-descriptor = record { kind = refl; format = refl; start = refl; extent = refl; parent = refl; depth = refl; first = refl }
+
+  -- so a call that takes them reads that range
+  pub stored-read : (k f : ℕ) (s : List ℕ) → read-at k f s (row-of p r) ≡ read k f s (r .kind) (r .format) (r .span .start) (r .span .count)
+  stored-read k f s = refl
