@@ -28,7 +28,8 @@ use Rattle.demands.proofs.Itemised.{itemised, only-itemised, long-refus
 use Rattle.demands.specs.Owned.{firsts, firsts-before, Own, Counted, Run-counted, Fields-counted}
 use Rattle.demands.proofs.Owned.{own, own-before, one-owns, run-owns, fields-own}
 use Rattle.demands.specs.Tries.{Run}
-use Rattle.demands.specs.Pads.{Same-but-pads}
+use Rattle.demands.specs.Pads.{In-pad, Same-but-pads}
+use Rattle.demands.proofs.CursorPads.{in-a-dump}
 use Rattle.demands.proofs.Pads.{pads-free}
 use Rattle.demands.proofs.PadFields.{pads-free-fields}
 use Rattle.demands.specs.Nested.{end, last, Inside, Byte-of, row, all-of, whole-of, Under}
@@ -214,16 +215,22 @@ module _ (s w : List ℕ) where
   pub code-is-listed : known one-codes (one s w .code) ≡ true
   code-is-listed = one-coded s w
 
-  -- ---- bytes that do not matter (`Pads`): an input that has each byte of s before its end that is in no pad of an opaque or a string in its reading
-  -- is answered as s is, whatever stands in the pads and behind the end, and however long that is
-  pub pads-do-not-matter : (t : List ℕ) → one s w .code ≡ 0 → length t ≤ limit → Same-but-pads s t (one s w .at) → one t w ≡ one s w
+  -- ---- bytes that do not matter (`Pads`): of an input s that has a reading, change what the pads of its opaques and strings hold, and what is behind
+  -- its end, and how long that is: the answer is the same, whatever the store
+  pub pads-do-not-matter : (t : List ℕ) {f : Found} {bytes items : ℕ} (r : Allowed 0 s f bytes items) → length s ≤ limit → length t ≤ limit → Same-but-pads r t → one t w ≡ one s w
   pads-do-not-matter t = pads-free s t w
 
   -- nor to field reading (`PadFields`): whatever fields are asked for of a descriptor of s, they are answered of that input as of s
-  pub pads-do-not-matter-to-fields : (t : List ℕ) → one s w .code ≡ 0 → length t ≤ limit → Same-but-pads s t (one s w .at) → (i : ℕ) → i < one s w .needed → (ak af : ℕ)
+  pub pads-do-not-matter-to-fields : (t : List ℕ) {f : Found} {bytes items : ℕ} (r : Allowed 0 s f bytes items) → one s w .code ≡ 0 → length t ≤ limit → Same-but-pads r t
+      → (i : ℕ) → i < one s w .needed → (ak af : ℕ)
       → let d = range (one s w .store) i in
       read ak af t (d .kind) (d .format) (d .span .start) (d .span .count) ≡ read ak af s (d .kind) (d .format) (d .span .start) (d .span .count)
   pads-do-not-matter-to-fields t = pads-free-fields s t w
+
+-- the pad of an opaque or a string that starts at o, in a dump: behind its length word and the bytes x that this counts, none of which is in it, up to
+-- the end of the opaque
+pub pad-in-a-dump : {x u : List ℕ} (o : ℕ) (q : Opaque x u) (i : ℕ) → In-pad o q i ↔ ((o + 4 + length x ≤ i) × (i < o + length u))
+pad-in-a-dump = in-a-dump
 
 -- ==== a run (`Tries` says what a run is by the grammar)
 module _ (s w : List ℕ) where

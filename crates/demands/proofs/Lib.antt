@@ -22,6 +22,7 @@ pub mod Codes
 pub mod FieldsItemised
 pub mod Parts
 pub mod AcceptedFields
+pub mod CursorPads
 pub mod Pads
 pub mod PadFields
 pub mod PadExample

@@ -13,7 +13,7 @@ use Rattle.reading.specs.Script.{four, eight, sixteen, Value, octets, address, 
 use Rattle.reading.specs.Cursor.{Place, Out, got, then, read-item, times, held-to, follow}
 use Rattle.reading.specs.Layout.{num, oct, Field, plain, mac, addr, list, segments, address-of, any-word, segment, run-of, field, fields, Row, _⟼_, _⟼_each_, last-number, opened, only, ranged, framed, pdu, flows, flow, counter, samples, sample, header, depth-limit, datagram-to, datagram}
 use Rattle.reading.specs.Values.{alone, valued, reading}
-use Rattle.reading.specs.Answer.{limit, from, nobody, row-words, size, one, unread, layout-at, layout-of, answered, read}
+use Rattle.reading.specs.Answer.{limit, from, nobody, row-words, size, room, one, unread, layout-at, layout-of, answered, read}
 use Rattle.reading.proofs.Items.{never}
 use Rattle.reading.proofs.Stands.{place}
 use Rattle.reading.proofs.Fields.{address-out, run-out, field-out, fields-out, fields-then}
@@ -23,12 +23,13 @@ use Rattle.reading.proofs.Exactly.{ended, longer}
 use Rattle.reading.proofs.Holding.{up-to}
 use Rattle.reading.proofs.Descriptors.{Among, this, inside, later, stands-in}
 use Rattle.demands.specs.FieldsItemised.{only-values}
+use Rattle.demands.specs.Readings.{Allowed}
 use Rattle.demands.specs.Pads.{Same-but-pads}
 use Rattle.demands.specs.DescriptorFields.{range}
 use Rattle.demands.proofs.Fielded.{range-is}
-use Rattle.demands.proofs.Itemised.{accepted-reads}
+use Rattle.demands.proofs.Itemised.{accepted-reads, reading-answers, one-whole}
 use Rattle.demands.proofs.Accepted.{one-reads}
-use Rattle.demands.proofs.Pads.{onward, times-onward, Alike, Alike-times, Goes, Within-goes, here-goes, item-goes, turn-goes, repeat-goes, within-goes, within-lies, times-again, again, accepted-alike}
+use Rattle.demands.proofs.Pads.{onward, times-onward, Alike, Alike-times, Goes, Within-goes, here-goes, item-goes, turn-goes, repeat-goes, within-goes, within-lies, times-again, again, reading-alike}
 
 -- ---- fields: what was read of s is read of t, and what follows is alike
 
@@ -243,12 +244,12 @@ good-flow limit (suc left) =
     let d = limit - left in
     good-framed 2 d (opened (flows (pdu d (flow limit left)))) (opens-flow (pdu d (flow limit left)) (good-pdu d (flow limit left) (good-flow limit left)))
 
-good-sample : Good (sample depth-limit)
+good-sample : (levels : ℕ) → Good (sample levels)
 unfolding samples layout-of
-good-sample =
-    let f : Good (flow depth-limit depth-limit) = good-flow depth-limit depth-limit in
+good-sample n =
+    let f : Good (flow n n) = good-flow n n in
     let c : Good counter = good-framed 3 1 (opened []) (opens-rows over) in
-    good-framed 1 0 (opened (samples depth-limit)) (opens-rows (counts f (counts c (counts f (counts c (counts f over))))))
+    good-framed 1 0 (opened (samples n)) (opens-rows (counts f (counts c (counts f (counts c (counts f over))))))
 
 -- ---- a datagram
 
@@ -258,15 +259,15 @@ ended-at sc s m p {a} {q} h i j e =
     let n = length-take-le m s j in
     longer sc (take m s) (q .at) p (omega (arith, n)) h (ap (λ (u : List ℕ). follow sc u p) (take-take (q .at) m s i) ∙ ended sc s p (omega arith) e)
 
-good-datagram : Good datagram
+good-datagram : (levels : ℕ) → Good (datagram-to levels)
 unfolding datagram-to follow layout-of
-good-datagram s t p a q b =
+good-datagram levels s t p a q b =
     let c = fields-goes header _ (here-goes _ b) in
     let n = last-number (c .value) in
-    let d = repeat-goes n (sample depth-limit) _ (c .rest) in
+    let d = repeat-goes n (sample levels) _ (c .rest) in
     let e = alone-first header s p (c .first) in
     let l = onward (alone header) s p (b .fits) e in
-    let k = times-onward n (sample depth-limit) s (c .next) (d .first .fits) (d .first .reads) in
+    let k = times-onward n (sample levels) s (c .next) (d .first .fits) (d .first .reads) in
     let m = p .at + (d .next .at - p .at) in
     let x : m ≤ length s = omega (arith, l .0, k .0, k .1) in
     let y : m ≤ length t = omega (arith, l .0, k .0, d .first .room) in
@@ -280,7 +281,7 @@ good-datagram s t p a q b =
           both-anew (alone header) (take m s) (take m t) p (rw (length-take-le m s x) (omega arith)) (rw (length-take-le m t y) (omega arith))
           (ended-at (alone header) s m p (l .0) z x e) (ended-at (alone header) t m p (l .0) z y (alone-first header t p (c .again)));
     })
-    (good-times (sample depth-limit) good-sample n s t (c .next) (d .all) (d .next) (d .first))
+    (good-times (sample levels) (good-sample levels) n s t (c .next) (d .all) (d .next) (d .first))
     none)
 
 -- ---- field reading
@@ -304,11 +305,12 @@ read-alike s t r h k f ak af =
     asked false c i j = refl
 
 -- of each descriptor of an accepted input
-pub pads-free-fields : (s t w : List ℕ) → one s w .code ≡ 0 → length t ≤ limit → Same-but-pads s t (one s w .at) → (i : ℕ) → i < one s w .needed → Read-alike s t (range (one s w .store) i)
-unfolding one
-pads-free-fields s t w z k b i h =
+pub pads-free-fields : (s t w : List ℕ) {f : Found} {bytes items : ℕ} (r : Allowed 0 s f bytes items) → one s w .code ≡ 0 → length t ≤ limit → Same-but-pads r t
+    → (i : ℕ) → i < one s w .needed → Read-alike s t (range (one s w .store) i)
+pads-free-fields s t w {f} {bytes} {items} r z k b i h =
     let a = accepted-reads one-reads s w z in
-    let g = a .found .ranges in
-    let e = good-datagram s t (from 0) (a .found) (place (a .end) (a .items)) (accepted-alike s t w a b) in
-    let m = stands-in g 0 nobody i (drop (row-words * size g) w) (rw (a .answers .needed) at h) in
-    subst (λ (l : List ℕ). Read-alike s t (range l i)) (sym (a .answers .store)) (subst (Read-alike s t) (range-is _ i) (read-alike s t _ (a .short) k (each-of e (m .1))))
+    let e = good-datagram (r .reading .levels) s t (from 0) f (place bytes items) (reading-alike r b) in
+    let g = f .ranges in
+    let u = reading-answers one-reads s w (a .short) r (subst (λ (x : Found). size (x .ranges) ≤ room w) (one-whole one-reads s (a .reading) r .0) (a .fits)) in
+    let m = stands-in g 0 nobody i (drop (row-words * size g) w) (rw (u .0 .needed) at h) in
+    subst (λ (l : List ℕ). Read-alike s t (range l i)) (sym (u .0 .store)) (subst (Read-alike s t) (range-is _ i) (read-alike s t _ (a .short) k (each-of e (m .1))))

@@ -5,26 +5,30 @@ use mathlib.Core.Path.{_≡_, refl, sym, ap, _∙_, subst}
 use mathlib.Core.Bool.{Bool, true, false, cond}
 use mathlib.Core.List.{List, _++_}
 use native.Mathlib.Omega.{arith}
+use native.Mathlib.Nat.{zero-add}
 use borrow.Author.Tests.{le-leb}
-use lib.ListN.{length, take, drop, getD, length-drop, take-append-drop}
+use lib.ListN.{length, take, drop, getD, length-drop, take-append-drop, length-append}
 use lib.Seq.{ext-getD, getD-take, getD-drop, length-take-le}
 use Rattle.reading.specs.Bytes.{be4, padded}
 use Rattle.reading.specs.Utf8.{utf8}
+use Rattle.reading.specs.Grammar.{Is}
 use Rattle.reading.specs.Script.{Span, Value, part, Found, _&&_, Item, word, tested, long, int, block, opaque, string, Script, give, refuse, here, item, within, repeat}
 use Rattle.reading.specs.Cursor.{Place, Out, got, stop, Reader, fixed, max-opaque, awaited, bytes, ill-at, read-opaque, read-item, times, held-to, inside, follow}
 use Rattle.reading.proofs.Items.{never, split, held-to-end, Opaque-read, opaque-read}
 use Rattle.reading.proofs.Stands.{place, Stands}
 use Rattle.reading.proofs.SoundItems.{sound-item}
+use Rattle.reading.proofs.Sound.{sound}
 use Rattle.reading.proofs.Complete.{complete-item}
 use Rattle.reading.proofs.Bounds.{Owes, owes, owes-item}
 use Rattle.reading.proofs.Counts.{repeat-is}
 use Rattle.reading.proofs.Room.{last-place}
-use Rattle.reading.specs.Layout.{depth-limit, datagram}
+use Rattle.reading.specs.Layout.{depth-limit, datagram-to, datagram}
 use Rattle.reading.specs.Answer.{limit, from, one}
-use Rattle.demands.specs.Itemised.{a-datagram, Accepted}
-use Rattle.demands.proofs.Itemised.{accepted-reads}
-use Rattle.demands.proofs.Accepted.{given, one-reads}
-use Rattle.demands.specs.Pads.{Given, Behind, Item-pad, Times-pad, Pad, Same-but-pads}
+use Rattle.demands.specs.Readings.{Allowed}
+use Rattle.demands.specs.Pads.{Same-but-pads}
+use Rattle.demands.proofs.Limit.{no-deeper}
+use Rattle.demands.proofs.Accepted.{given}
+use Rattle.demands.proofs.CursorPads.{Given, Behind, Item-pad-read, Times-pad-read, Pad-read, agree}
 
 -- a script goes forward, and stays inside
 pub onward : (sc : Script) (s : List ℕ) (p : Place) {a : Found} {q : Place} → p .at ≤ length s → follow sc s p ≡ got a q → (p .at ≤ q .at) × (q .at ≤ length s)
@@ -77,12 +81,12 @@ string-part s p v q e =
         record { whole = record { span = x; is = cc; read = subst (λ (z : Place). Opaque-read s p x z) g r }; text = t }
     go x d r false t k = never k
 
-part-pad-in : {s : List ℕ} {p : Place} {v : Value} {q : Place} → (r : Part-read s p v q) → (j : ℕ) → Item-pad opaque v j → In (p .at) (q .at) j
+part-pad-in : {s : List ℕ} {p : Place} {v : Value} {q : Place} → (r : Part-read s p v q) → (j : ℕ) → Item-pad-read opaque v j → In (p .at) (q .at) j
 part-pad-in {v = v} r j h =
-    let b : Behind (r .span) j = subst (λ (z : Value). Item-pad opaque z j) (r .is) h in
+    let b : Behind (r .span) j = subst (λ (z : Value). Item-pad-read opaque z j) (r .is) h in
     (omega (arith, r .read .start, b .0), omega (arith, r .read .start, r .read .at, b .1))
 
-item-pad-in : (i : Item) (s : List ℕ) (p : Place) (v : Value) (q : Place) → read-item i s p ≡ got v q → (j : ℕ) → Item-pad i v j → In (p .at) (q .at) j
+item-pad-in : (i : Item) (s : List ℕ) (p : Place) (v : Value) (q : Place) → read-item i s p ≡ got v q → (j : ℕ) → Item-pad-read i v j → In (p .at) (q .at) j
 item-pad-in word s p v q e j h = absurd h
 item-pad-in (tested ok code) s p v q e j h = absurd h
 item-pad-in long s p v q e j h = absurd h
@@ -92,11 +96,11 @@ item-pad-in opaque s p v q e j h = part-pad-in (opaque-part s p v q e) j h
 item-pad-in string s p v q e j h = part-pad-in (string-part s p v q e .whole) j h
 
 abbrev Bound : Script → Type 0
-Bound sc = (s : List ℕ) (p : Place) (a : Found) (q : Place) → p .at ≤ length s → follow sc s p ≡ got a q → (i : ℕ) → Pad sc s p i → In (p .at) (q .at) i
+Bound sc = (s : List ℕ) (p : Place) (a : Found) (q : Place) → p .at ≤ length s → follow sc s p ≡ got a q → (i : ℕ) → Pad-read sc s p i → In (p .at) (q .at) i
 
 times-bound : (sc : Script) → Bound sc → (n : ℕ) (s : List ℕ) (p : Place) (a : Found) (q : Place) → p .at ≤ length s → times n (follow sc) s p ≡ got a q
-    → (i : ℕ) → Times-pad n (follow sc) (λ z. Pad sc s z) s p i → In (p .at) (q .at) i
-unfolding times Times-pad
+    → (i : ℕ) → Times-pad-read n (follow sc) (λ z. Pad-read sc s z) s p i → In (p .at) (q .at) i
+unfolding times Times-pad-read
 times-bound sc b zero s p a q h e i g = absurd g
 times-bound sc b (suc n) s p a q h e i g =
     let w = split (follow sc s p) _ e in
@@ -106,11 +110,11 @@ times-bound sc b (suc n) s p a q h e i g =
     go (w .first) (last-place (v .second)) (j .0) (k .0) (λ x. times-bound sc b n s (w .place) (v .value) (v .place) (j .1) (v .first) i x) g
   where
     go : {c : Found} {r d : Place} → follow sc s p ≡ got c r → d ≡ q → p .at ≤ r .at → r .at ≤ d .at
-        → (Times-pad n (follow sc) (λ z. Pad sc s z) s r i → In (r .at) (d .at) i)
-        → Pad sc s p i ⊎ Given (follow sc s p) (λ c z. Times-pad n (follow sc) (λ z. Pad sc s z) s z i) → In (p .at) (q .at) i
+        → (Times-pad-read n (follow sc) (λ z. Pad-read sc s z) s r i → In (r .at) (d .at) i)
+        → Pad-read sc s p i ⊎ Given (follow sc s p) (λ c z. Times-pad-read n (follow sc) (λ z. Pad-read sc s z) s z i) → In (p .at) (q .at) i
     go {c} {r} {d} f y l m again (inl x) = let u = b s p c r h f i x in (u .0, rw (← y) (omega (arith, u .1)))
     go {c} {r} {d} f y l m again (inr x) =
-        let u = again (given-is (λ c z. Times-pad n (follow sc) (λ z. Pad sc s z) s z i) f x) in
+        let u = again (given-is (λ c z. Times-pad-read n (follow sc) (λ z. Pad-read sc s z) s z i) f x) in
         (omega (arith, u .0), rw (← y) (u .1))
 
 -- an opaque that was read with a script inside it, taken apart
@@ -167,7 +171,7 @@ within-lies {body} {k} {s} {p} {a} {q} w =
     record { opened = r; inner = i; within = rw l at (o .1); outer = u; after = m .0 }
 
 bound : (sc : Script) → Bound sc
-unfolding follow Pad
+unfolding follow Pad-read
 bound (give a) s p b q h e i g = absurd g
 bound (refuse code) s p b q h e i g = absurd g
 bound (here k) s p a q h e i g = bound (k (p .at)) s p a q h e i g
@@ -176,10 +180,10 @@ bound (item j k) s p a q h e i g =
     let l = item-onward j s p h (w .first) in
     let m = onward (k (w .value)) s (w .place) (l .1) (w .second) in
     go (w .value) (w .place) (l .0) (m .0) (λ x. item-pad-in j s p (w .value) (w .place) (w .first) i x) (λ x. bound (k (w .value)) s (w .place) a q (l .1) (w .second) i x)
-    (given-is (λ v z. Item-pad j v i ⊎ Pad (k v) s z i) (w .first) g)
+    (given-is (λ v z. Item-pad-read j v i ⊎ Pad-read (k v) s z i) (w .first) g)
   where
-    go : (v : Value) (r : Place) → p .at ≤ r .at → r .at ≤ q .at → (Item-pad j v i → In (p .at) (r .at) i) → (Pad (k v) s r i → In (r .at) (q .at) i)
-        → Item-pad j v i ⊎ Pad (k v) s r i → In (p .at) (q .at) i
+    go : (v : Value) (r : Place) → p .at ≤ r .at → r .at ≤ q .at → (Item-pad-read j v i → In (p .at) (r .at) i) → (Pad-read (k v) s r i → In (r .at) (q .at) i)
+        → Item-pad-read j v i ⊎ Pad-read (k v) s r i → In (p .at) (q .at) i
     go v r l m f t (inl x) = let u = f x in (u .0, omega (arith, u .1))
     go v r l m f t (inr x) = let u = t x in (omega (arith, u .0), u .1)
 bound (within body k) s p a q h e i g =
@@ -188,14 +192,14 @@ bound (within body k) s p a q h e i g =
     go l (λ x. bound body (held-to (w .span) s) (place (w .span .start) (w .behind .steps)) (w .inner) (w .last) (l .inner) (w .holds) i x)
     (λ x. bound (k (w .span) (w .inner)) s (place (w .behind .at) (w .last .steps)) a q (l .outer) (w .rest) i x)
     (inside-is (follow body) (w .span) s (w .behind) (w .holds))
-    (given-is (λ x z. Behind x i ⊎ (Pad body (held-to x s) (record { at = x .start; steps = z .steps }) i ⊎ Given (inside x (follow body) s z) (λ b d. Pad (k x b) s d i))) (w .opens) g)
+    (given-is (λ x z. Behind x i ⊎ (Pad-read body (held-to x s) (record { at = x .start; steps = z .steps }) i ⊎ Given (inside x (follow body) s z) (λ b d. Pad-read (k x b) s d i))) (w .opens) g)
   where
-    go : {x : Span} {r d : Place} {b : Found} → Within-lies s p x r d q → (Pad body (held-to x s) (place (x .start) (r .steps)) i → In (x .start) (d .at) i)
-        → (Pad (k x b) s (place (r .at) (d .steps)) i → In (r .at) (q .at) i) → inside x (follow body) s r ≡ got b (place (r .at) (d .steps))
-        → Behind x i ⊎ (Pad body (held-to x s) (place (x .start) (r .steps)) i ⊎ Given (inside x (follow body) s r) (λ b d. Pad (k x b) s d i)) → In (p .at) (q .at) i
+    go : {x : Span} {r d : Place} {b : Found} → Within-lies s p x r d q → (Pad-read body (held-to x s) (place (x .start) (r .steps)) i → In (x .start) (d .at) i)
+        → (Pad-read (k x b) s (place (r .at) (d .steps)) i → In (r .at) (q .at) i) → inside x (follow body) s r ≡ got b (place (r .at) (d .steps))
+        → Behind x i ⊎ (Pad-read body (held-to x s) (place (x .start) (r .steps)) i ⊎ Given (inside x (follow body) s r) (λ b d. Pad-read (k x b) s d i)) → In (p .at) (q .at) i
     go l f t e (inl x) = (omega (arith, l .opened .start, x .0), omega (arith, l .opened .start, l .opened .at, l .after, x .1))
     go l f t e (inr (inl x)) = let u = f x in (omega (arith, l .opened .start, u .0), omega (arith, l .opened .start, l .opened .at, l .within, l .after, u .1))
-    go {x = y} l f t e (inr (inr x)) = let u = t (given-is (λ b d. Pad (k y b) s d i) e x) in (omega (arith, l .opened .at, u .0), u .1)
+    go {x = y} l f t e (inr (inr x)) = let u = t (given-is (λ b d. Pad-read (k y b) s d i) e x) in (omega (arith, l .opened .at, u .0), u .1)
 bound (repeat n body k) s p a q h e i g =
     let w = split (times n (follow body) s p) _ e in
     let l = times-onward n body s p h (w .first) in
@@ -203,10 +207,10 @@ bound (repeat n body k) s p a q h e i g =
     go (w .first) (l .0) (m .0) (λ x. times-bound body (bound body) n s p (w .value) (w .place) h (w .first) i x) (λ x. bound (k (w .value)) s (w .place) a q (l .1) (w .second) i x) g
   where
     go : {b : Found} {r : Place} → times n (follow body) s p ≡ got b r → p .at ≤ r .at → r .at ≤ q .at
-        → (Times-pad n (follow body) (λ z. Pad body s z) s p i → In (p .at) (r .at) i) → (Pad (k b) s r i → In (r .at) (q .at) i)
-        → Times-pad n (follow body) (λ z. Pad body s z) s p i ⊎ Given (times n (follow body) s p) (λ b z. Pad (k b) s z i) → In (p .at) (q .at) i
+        → (Times-pad-read n (follow body) (λ z. Pad-read body s z) s p i → In (p .at) (r .at) i) → (Pad-read (k b) s r i → In (r .at) (q .at) i)
+        → Times-pad-read n (follow body) (λ z. Pad-read body s z) s p i ⊎ Given (times n (follow body) s p) (λ b z. Pad-read (k b) s z i) → In (p .at) (q .at) i
     go e l m f t (inl x) = let u = f x in (u .0, omega (arith, u .1))
-    go e l m f t (inr x) = let u = t (given-is (λ b z. Pad (k b) s z i) e x) in (omega (arith, u .0), u .1)
+    go e l m f t (inr x) = let u = t (given-is (λ b z. Pad-read (k b) s z i) e x) in (omega (arith, u .0), u .1)
 
 -- ---- bytes that are the same, but for pads
 
@@ -278,19 +282,19 @@ module _ (s t : List ℕ) where
         (λ j. got (record { start = sym (r .start) j; count = x .count }) (record { at = sym (r .at) j; steps = sym (r .steps) j }))
 
     -- a byte of a length word or a payload
-    payload-byte : (r : Part-read s p v q) → Unless (Item-pad opaque v) s t (p .at) (q .at) → Same s t (p .at) (r .span .start + r .span .count)
+    payload-byte : (r : Part-read s p v q) → Unless (Item-pad-read opaque v) s t (p .at) (q .at) → Same s t (p .at) (r .span .start + r .span .count)
     payload-byte r h i g =
         h i (g .0, omega (arith, r .read .start, r .read .at, g .1)) (λ b.
-        let c : Behind (r .span) i = subst (λ (z : Value). Item-pad opaque z i) (r .is) b in
+        let c : Behind (r .span) i = subst (λ (z : Value). Item-pad-read opaque z i) (r .is) b in
         omega (arith, c .0, g .1))
 
-    part-again : read-item opaque s p ≡ got v q → Unless (Item-pad opaque v) s t (p .at) (q .at) → read-item opaque t p ≡ got v q
+    part-again : read-item opaque s p ≡ got v q → Unless (Item-pad-read opaque v) s t (p .at) (q .at) → read-item opaque t p ≡ got v q
     unfolding read-item
     part-again e h =
         let r = opaque-part s p v q e in
         rw (span-again (r .span) (r .read) (word-same (p .at) (λ i g. payload-byte r h i (g .0, omega (arith, r .read .start, g .1))))) (ap (λ (z : Value). got z q) (sym (r .is)))
 
-    text-again : read-item string s p ≡ got v q → Unless (Item-pad opaque v) s t (p .at) (q .at) → read-item string t p ≡ got v q
+    text-again : read-item string s p ≡ got v q → Unless (Item-pad-read opaque v) s t (p .at) (q .at) → read-item string t p ≡ got v q
     unfolding read-item
     text-again e h =
         let u = string-part s p v q e in
@@ -301,7 +305,7 @@ module _ (s t : List ℕ) where
         let y : utf8 (bytes t x) ≡ true = ap utf8 k ∙ u .text in
         rw (span-again x (r .read) (word-same (p .at) (λ i g. payload-byte r h i (g .0, omega (arith, r .read .start, g .1)))), y) (ap (λ (z : Value). got z q) (sym (r .is)))
 
-    item-again : (i : Item) → read-item i s p ≡ got v q → Unless (Item-pad i v) s t (p .at) (q .at) → read-item i t p ≡ got v q
+    item-again : (i : Item) → read-item i s p ≡ got v q → Unless (Item-pad-read i v) s t (p .at) (q .at) → read-item i t p ≡ got v q
     item-again word e h = whole-again word e (λ j g. h j g (λ x. x))
     item-again (tested ok code) e h = whole-again (tested ok code) e (λ j g. h j g (λ x. x))
     item-again long e h = whole-again long e (λ j g. h j g (λ x. x))
@@ -321,10 +325,10 @@ pub record Both (r : Reader Found) (P : List ℕ → Place → ℕ → Type 0) (
 
 -- a script did, and t has all but its pads; and a script, so many times over
 abbrev pub Alike : Script → (s t : List ℕ) → Place → Found → Place → Type 0
-Alike sc = Both (follow sc) (Pad sc)
+Alike sc = Both (follow sc) (Pad-read sc)
 
 abbrev pub Alike-times : ℕ → Script → (s t : List ℕ) → Place → Found → Place → Type 0
-Alike-times n sc = Both (times n (follow sc)) (λ s p. Times-pad n (follow sc) (λ z. Pad sc s z) s p)
+Alike-times n sc = Both (times n (follow sc)) (λ s p. Times-pad-read n (follow sc) (λ z. Pad-read sc s z) s p)
 
 -- what was read of s first is read of t, and the script that follows it is alike
 pub record Goes {A : Type 0} (o u : Out A) (k : A → Script) (s t : List ℕ) (a : Found) (q : Place) : Type 0 where
@@ -359,17 +363,17 @@ pub record Within-goes (body : Script) (k : Span → Found → Script) (s t : Li
 
 module _ {s t : List ℕ} {p : Place} {a : Found} {q : Place} where
   pub here-goes : (k : ℕ → Script) → Alike (here k) s t p a q → Alike (k (p .at)) s t p a q
-  unfolding follow Pad
+  unfolding follow Pad-read
   here-goes k b = record { fits = b .fits; reads = b .reads; room = b .room; alike = b .alike }
 
   pub item-goes : (j : Item) (k : Value → Script) → Alike (item j k) s t p a q → Goes (read-item j s p) (read-item j t p) k s t a q
-  unfolding follow Pad
+  unfolding follow Pad-read
   item-goes j k b =
       let w = split (read-item j s p) _ (b .reads) in
       let l = item-onward j s p (b .fits) (w .first) in
       let m = onward (k (w .value)) s (w .place) (l .1) (w .second) in
       let c =
-      apart s t (l .0) (m .0) (λ i. given-is (λ v z. Item-pad j v i ⊎ Pad (k v) s z i) (w .first))
+      apart s t (l .0) (m .0) (λ i. given-is (λ v z. Item-pad-read j v i ⊎ Pad-read (k v) s z i) (w .first))
       (item-pad-in j s p (w .value) (w .place) (w .first)) (bound (k (w .value)) s (w .place) a q (l .1) (w .second)) (b .alike) in
       record {
         value = w .value;
@@ -380,7 +384,7 @@ module _ {s t : List ℕ} {p : Place} {a : Found} {q : Place} where
       }
 
   pub turn-goes : (n : ℕ) (sc : Script) → Alike-times (suc n) sc s t p a q → Turn-goes n sc s t p a q
-  unfolding times Times-pad
+  unfolding times Times-pad-read
   turn-goes n sc b =
       let w = split (follow sc s p) _ (b .reads) in
       let v = split (times n (follow sc) s (w .place)) _ (w .second) in
@@ -388,7 +392,7 @@ module _ {s t : List ℕ} {p : Place} {a : Found} {q : Place} where
       let l = onward sc s p (b .fits) (w .first) in
       let m = times-onward n sc s (w .place) (l .1) e in
       let c =
-      apart s t (l .0) (m .0) (λ i. or-given (λ c z. Times-pad n (follow sc) (λ z. Pad sc s z) s z i) (w .first))
+      apart s t (l .0) (m .0) (λ i. or-given (λ c z. Times-pad-read n (follow sc) (λ z. Pad-read sc s z) s z i) (w .first))
       (bound sc s p (w .value) (w .place) (b .fits) (w .first)) (times-bound sc (bound sc) n s (w .place) (v .value) q (l .1) e) (b .alike) in
       record {
         one = w .value;
@@ -403,13 +407,13 @@ module _ {s t : List ℕ} {p : Place} {a : Found} {q : Place} where
       value-is f = cc
 
   pub repeat-goes : (n : ℕ) (body : Script) (k : Found → Script) → Alike (repeat n body k) s t p a q → Repeat-goes n body k s t p a q
-  unfolding follow Pad
+  unfolding follow Pad-read
   repeat-goes n body k b =
       let w = split (times n (follow body) s p) _ (b .reads) in
       let l = times-onward n body s p (b .fits) (w .first) in
       let m = onward (k (w .value)) s (w .place) (l .1) (w .second) in
       let c =
-      apart s t (l .0) (m .0) (λ i. or-given (λ b z. Pad (k b) s z i) (w .first))
+      apart s t (l .0) (m .0) (λ i. or-given (λ b z. Pad-read (k b) s z i) (w .first))
       (times-bound body (bound body) n s p (w .value) (w .place) (b .fits) (w .first)) (bound (k (w .value)) s (w .place) a q (l .1) (w .second)) (b .alike) in
       record {
         all = w .value;
@@ -419,7 +423,7 @@ module _ {s t : List ℕ} {p : Place} {a : Found} {q : Place} where
       }
 
   pub within-goes : (body : Script) (k : Span → Found → Script) → Alike (within body k) s t p a q → Within-goes body k s t p a q
-  unfolding Pad
+  unfolding Pad-read
   within-goes body k b = let w = within-parts body k s p a q (b .reads) in go w (within-lies w)
     where
       go : (w : Within-read body k s p a q) → Within-lies s p (w .span) (w .behind) (w .last) q → Within-goes body k s t p a q
@@ -427,12 +431,12 @@ module _ {s t : List ℕ} {p : Place} {a : Found} {q : Place} where
           let x = w .span in
           let inner : Place = place (x .start) (w .behind .steps) in
           let outer : Place = place (w .behind .at) (w .last .steps) in
-          let none : (i : ℕ) → (Behind x i → ⊥) → (Pad body (held-to x s) inner i → ⊥) → (Pad (k x (w .inner)) s outer i → ⊥) → Pad (within body k) s p i → ⊥ =
+          let none : (i : ℕ) → (Behind x i → ⊥) → (Pad-read body (held-to x s) inner i → ⊥) → (Pad-read (k x (w .inner)) s outer i → ⊥) → Pad-read (within body k) s p i → ⊥ =
           λ i f g h y.
-          neither f (neither g (λ z. h (given-is (λ b d. Pad (k x b) s d i) (inside-is (follow body) x s (w .behind) (w .holds)) z)))
-          (given-is (λ y z. Behind y i ⊎ (Pad body (held-to y s) (record { at = y .start; steps = z .steps }) i ⊎ Given (inside y (follow body) s z) (λ b d. Pad (k y b) s d i))) (w .opens) y) in
-          let in-body : (i : ℕ) → Pad body (held-to x s) inner i → In (x .start) (w .last .at) i = bound body (held-to x s) inner (w .inner) (w .last) (l .inner) (w .holds) in
-          let in-rest : (i : ℕ) → Pad (k x (w .inner)) s outer i → In (w .behind .at) (q .at) i = bound (k x (w .inner)) s outer a q (l .outer) (w .rest) in
+          neither f (neither g (λ z. h (given-is (λ b d. Pad-read (k x b) s d i) (inside-is (follow body) x s (w .behind) (w .holds)) z)))
+          (given-is (λ y z. Behind y i ⊎ (Pad-read body (held-to y s) (record { at = y .start; steps = z .steps }) i ⊎ Given (inside y (follow body) s z) (λ b d. Pad-read (k y b) s d i))) (w .opens) y) in
+          let in-body : (i : ℕ) → Pad-read body (held-to x s) inner i → In (x .start) (w .last .at) i = bound body (held-to x s) inner (w .inner) (w .last) (l .inner) (w .holds) in
+          let in-rest : (i : ℕ) → Pad-read (k x (w .inner)) s outer i → In (w .behind .at) (q .at) i = bound (k x (w .inner)) s outer a q (l .outer) (w .rest) in
           let tall : length (held-to x t) ≡ x .start + x .count = held-to-end x t (omega (arith, l .opened .start, l .opened .at, l .after, b .room)) in
           record {
             read = w;
@@ -477,7 +481,7 @@ unfolding follow inside
 within-is body k t p e f g = rw (e, f, g)
 
 pub again : (sc : Script) → Again sc
-unfolding follow Pad
+unfolding follow Pad-read
 again (give a) s t p c q b = b .reads
 again (refuse code) s t p a q b = never (b .reads)
 again (here k) s t p a q b = again (k (p .at)) s t p a q (here-goes k b)
@@ -493,21 +497,42 @@ again (repeat n body k) s t p a q b =
 
 -- ---- one datagram
 
-module _ (s t w : List ℕ) where
-  -- the reading of an accepted input, and an input that is the same but for its pads
-  pub accepted-alike : (a : Accepted a-datagram s w (one s w)) → Same-but-pads s t (one s w .at) → Alike datagram s t (from 0) (a .found) (place (a .end) (a .items))
-  accepted-alike a b =
-      let n : one s w .at ≡ a .end = a .answers .at in
-      record { fits = omega arith; reads = given depth-limit s (a .reading .reading) (a .reading .shallow); room = rw n at (b .long); alike = λ i o. b .alike i (rw n (o .1)) }
+-- the reading of a datagram that s begins with, and an input that is the same but for its pads
+pub reading-alike : {s t : List ℕ} {f : Found} {bytes items : ℕ} (r : Allowed 0 s f bytes items) → Same-but-pads r t → Alike (datagram-to (r .reading .levels)) s t (from 0) f (place bytes items)
+reading-alike {s} {t} {f} {bytes} {items} r b =
+    let n = r .reading .levels in
+    let g = r .reading .begins in
+    record {
+      fits = omega arith;
+      reads = given n s (r .reading) (no-deeper n 0 (g .read) f items (g .is));
+      room = b .long;
+      alike = λ i o h. b .alike i (o .1) (λ x. h (agree (datagram-to n) 0 (g .read) f items (g .is) s (g .rest) 0 (record { there = g .joined; fits = rw (g .joined, length-append) (omega arith) }) i .0 x));
+    }
 
+-- so t begins with a datagram in which the same is found
+pub reading-again : {s t : List ℕ} {f : Found} {bytes items : ℕ} (r : Allowed 0 s f bytes items) → Same-but-pads r t → Allowed 0 t f bytes items
+reading-again {s} {t} {f} {bytes} {items} r b =
+    let n = r .reading .levels in
+    let d = sound (datagram-to n) t (from 0) f (place bytes items) (omega arith) (again (datagram-to n) s t (from 0) f (place bytes items) (reading-alike r b)) in
+    record {
+      reading = record {
+        levels = n;
+        begins = record {
+          read = d .read;
+          rest = d .rest;
+          joined = d .stands .there;
+          long = sym (d .at ∙ zero-add _);
+          is = subst (λ (m : ℕ). Is (datagram-to n) 0 (d .read) f m) (sym (d .steps ∙ zero-add _)) (d .is);
+        };
+      };
+      shallow = r .shallow;
+    }
+
+module _ (s t w : List ℕ) where
   -- two inputs within the limit that are read alike are answered alike
   alike-answered : length s ≤ limit → length t ≤ limit → follow datagram t (from 0) ≡ follow datagram s (from 0) → one t w ≡ one s w
   unfolding one
   alike-answered h k e = rw (le-leb (length s) limit h, le-leb (length t) limit k, e)
 
-  pub pads-free : one s w .code ≡ 0 → length t ≤ limit → Same-but-pads s t (one s w .at) → one t w ≡ one s w
-  unfolding one
-  pads-free z k b =
-      let a = accepted-reads one-reads s w z in
-      let c = accepted-alike a b in
-      alike-answered (a .short) k (again datagram s t (from 0) (a .found) (place (a .end) (a .items)) c ∙ sym (c .reads))
+  pub pads-free : {f : Found} {bytes items : ℕ} (r : Allowed 0 s f bytes items) → length s ≤ limit → length t ≤ limit → Same-but-pads r t → one t w ≡ one s w
+  pads-free r h k b = let q = reading-again r b in alike-answered h k (given depth-limit t (q .reading) (q .shallow) ∙ sym (given depth-limit s (r .reading) (r .shallow)))
