@@ -83,13 +83,13 @@ def shown_uses(crate, names):
     return 'use Rattle.xdr.specs.Shown.{answer-of}\nuse Rattle.%s.specs.Shown.{%s}\n' % (crate, ', '.join(names))
 
 
-DESCRIPTOR_USES = '''use Rattle.reading.specs.Answer.{row-of}
-use Rattle.flows.specs.Written.{range-of}
-use Rattle.flows.specs.declared.put.Descriptor.{Descriptor}
-'''
+DESCRIPTOR = '''-- Made by tests/examples/make: a descriptor by the names of its fields, and its words in the store. Assumes nothing.
+use mathlib.Core.Path.{_≡_, refl}
+use mathlib.Core.List.{[], _∷_}
+use Rattle.reading.specs.Answer.{row-of}
+use Rattle.store.specs.Written.{range-of}
+use Rattle.store.specs.declared.Descriptor.{Descriptor}
 
-DESCRIPTOR = '''
--- a descriptor's words in the store, by the names of its fields
 pub a-descriptor : Descriptor
 a-descriptor = record { kind = 11; format = record { 0 = 12 }; start = 13; length = 14; parent = 15; depth = 16; first = 17 }
 
@@ -109,13 +109,20 @@ the-descriptor-holds s = refl
 '''
 
 
+def store_text():
+    return DESCRIPTOR
+
+
+def layout_text():
+    segment = read_struct('segment', 'Segment', 'lists', 'a-segment', 'a segment of an AS path',
+                          literal([outcome(START + 16, 4), ('kind', '1'), ('path', Part((START + 8, 2)).field())]))
+    return crate_text('layout', 'the segments of an AS path', [segment], ['segments'], shown_uses('layout', ['a-segment']))
+
+
 def flows_text():
     bodies = flow_bodies()
-    structs = [of_body('flow', b) for b in bodies]
-    structs.append(read_struct('segment', 'Segment', 'lists', 'a-segment', 'a segment of an AS path',
-                               literal([outcome(START + 16, 4), ('kind', '1'), ('path', Part((START + 8, 2)).field())])))
-    return crate_text('flows', 'the flow records', structs, ['flow-records', 'segments'],
-                      shown_uses('flows', [dashed(b.name) for b in bodies] + ['a-segment']) + DESCRIPTOR_USES, DESCRIPTOR)
+    return crate_text('flows', 'the flow records', [of_body('flow', b) for b in bodies], ['flow-records'],
+                      shown_uses('flows', [dashed(b.name) for b in bodies]))
 
 
 def samples_text():
@@ -145,7 +152,7 @@ def fields_text():
     structs = [Struct('listed-%d' % i, 'Listed', 'parts', 'of-word (listed listed-%d)' % i, 'the word with index %d of a list of two' % i,
                       literal([('present', str(there).lower()), ('value', number(value))])) for i, there, value in LISTED]
     uses = '''use Rattle.reading.specs.Answer.{read}
-use Rattle.flows.specs.declared.put.Descriptor.{Descriptor}
+use Rattle.store.specs.declared.Descriptor.{Descriptor}
 use Rattle.fields.specs.Shown.{read-of, listed}
 '''
     text = crate_text('fields', 'a word of a list, and what is asked of a descriptor,', structs, ['list-words'], uses, ASKED)

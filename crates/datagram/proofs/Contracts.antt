@@ -13,10 +13,10 @@ use Rattle.reading.proofs.Counts.{counted}
 use Rattle.xdr.specs.declared.Passed.the-variants as passed
 use Rattle.xdr.specs.Shown.{answer-of, place, read-on}
 use Rattle.xdr.proofs.Settles.{Settles, settled, settled-by}
-use Rattle.flows.specs.declared.put.Written.{Written}
-use Rattle.flows.specs.Chain.{Then}
-use Rattle.flows.specs.Scanned.{scanned-out}
-use Rattle.flows.specs.Written.{written, placed}
+use Rattle.store.specs.declared.Written.{Written}
+use Rattle.layout.specs.Chain.{Then}
+use Rattle.layout.specs.Scanned.{scanned-out}
+use Rattle.store.specs.Written.{written, placed}
 use Rattle.datagram.specs.declared.decode.Answer.{Answer}
 use Rattle.datagram.specs.declared.decode.Decoded.{Decoded}
 use Rattle.datagram.specs.Shown.{decoded, header-fields, Heads, ran, root}

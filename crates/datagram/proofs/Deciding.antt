@@ -26,13 +26,13 @@ use Rattle.xdr.specs.declared.Passed.{Passed}
 use Rattle.xdr.specs.declared.Passed.the-variants as passed
 use Rattle.xdr.specs.declared.Address.{Address}
 use Rattle.xdr.specs.Shown.{place, Inside, an-address, refusal}
-use Rattle.flows.specs.declared.frames.Scanned.{Scanned}
-use Rattle.flows.specs.declared.frames.Scanned.the-variants as scanned
-use Rattle.flows.specs.Scanned.{Scan, scanned-out}
-use Rattle.flows.specs.Chain.{Then, goes, halts, loaded}
-use Rattle.flows.specs.Written.{Ready, placed}
-use Rattle.flows.proofs.Chain.{both}
-use Rattle.flows.proofs.Placing.{a-put, store-is, put-kept}
+use Rattle.layout.specs.declared.frames.Scanned.{Scanned}
+use Rattle.layout.specs.declared.frames.Scanned.the-variants as scanned
+use Rattle.layout.specs.Scanned.{Scan, scanned-out}
+use Rattle.layout.specs.Chain.{Then, goes, halts, loaded}
+use Rattle.store.specs.Written.{Ready, placed}
+use Rattle.layout.proofs.Chain.{both}
+use Rattle.store.proofs.Placing.{a-put, store-is, put-kept}
 use Rattle.datagram.specs.declared.decode.Answer.{Answer}
 use Rattle.datagram.specs.declared.decode.Decoded.{Decoded}
 use Rattle.datagram.specs.Shown.{root, decoded, Refuses, Is-read, values-of, Accepts, ran}

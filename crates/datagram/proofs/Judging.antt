@@ -26,14 +26,14 @@ use Rattle.xdr.specs.declared.Outcome.{Outcome}
 use Rattle.xdr.specs.declared.Passed.{Passed}
 use Rattle.xdr.specs.declared.Passed.the-variants as passed
 use Rattle.xdr.specs.Shown.{place, Inside, refusal}
-use Rattle.flows.specs.declared.next.Run.{Run}
-use Rattle.flows.specs.Chain.{Then, goes, halts, Ends, ends, There}
-use Rattle.flows.specs.Scanned.{Scan}
-use Rattle.flows.specs.Written.{index, Ready, Put, a-pen, held-by, placed}
-use Rattle.flows.proofs.Placing.{a-put, at-is, word-is, store-is, put-kept, own-last}
+use Rattle.layout.specs.declared.field.WordsAt.{WordsAt}
+use Rattle.layout.specs.Chain.{Then, goes, halts, Ends, ends, There}
+use Rattle.layout.specs.Scanned.{Scan}
+use Rattle.store.specs.Written.{index, Ready, Put, a-pen, held-by, placed}
+use Rattle.store.proofs.Placing.{a-put, at-is, word-is, store-is, put-kept, own-last}
 use Rattle.samples.specs.Held.{Counted, on, over, Has-last, rest-of}
-use Rattle.flows.proofs.Chain.{both, within-start}
-use Rattle.flows.proofs.Scan.{scan-inside}
+use Rattle.layout.proofs.Chain.{both, within-start}
+use Rattle.layout.proofs.Scan.{scan-inside}
 use Rattle.samples.proofs.Sampling.{behind-cut, behind-last, counted-scan, last-there, last-fits, last-of, last-behind}
 use Rattle.datagram.specs.Shown.{Heads, root}
 
@@ -52,7 +52,7 @@ module _ (s : List ℕ) (c : Cursor) (k : ℕ) where
   one-counts g w l = let i = counted-scan g w in record { fits = omega (arith, i .inside, i .few) }
 
 -- a header that was passed, or not
-module _ (s : List ℕ) (c : Cursor) {r : Run} (h : Heads s c r) where
+module _ (s : List ℕ) (c : Cursor) {r : WordsAt} (h : Heads s c r) where
   pub heads-last : Has-last s (r .passed) (r .at) 12
   heads-last = record { fits = λ w. omega (arith, h .there .fits w) }
 
@@ -112,14 +112,14 @@ module _ (s : List ℕ) (c : Cursor) {r : Run} (h : Heads s c r) where
           let f = read w in
           ap (λ (n : ℕ). counted (k + 1) (times n (follow (sample 8)) s (place d))) (sym (f .last)) ∙ more (f .values) (times (last-number (f .values)) (follow (sample 8)) s (place d)) ∙ sym (ap (counted k) (begun s c d (f .is)))
 
-pub heads : (s : List ℕ) (c : Cursor) {p q : Passed} {vs : List Value} {r : Run} → Then (version ∷ []) s (passed.Got c) p vs → Ends (addr ∷ []) s p q → Then (words 4) s q (r .passed) (numbers 4 s (r .at)) → There 4 s (r .passed) (r .at) → Heads s c r
+pub heads : (s : List ℕ) (c : Cursor) {p q : Passed} {vs : List Value} {r : WordsAt} → Then (version ∷ []) s (passed.Got c) p vs → Ends (addr ∷ []) s p q → Then (words 4) s q (r .passed) (numbers 4 s (r .at)) → There 4 s (r .passed) (r .at) → Heads s c r
 heads s c {q = q} a (ends b) u t = record { behind = q; first = ends (both a b); rest = u; there = t }
 
 -- ---- the second pass
 abbrev pub start-of : ℕ → Cursor
 start-of at = record { at = at; steps = 0 }
 
-module _ (s l : List ℕ) (at base : ℕ) (g : Ready s l (root base) (follow datagram s (from at))) (f : at ≤ length s) {p : Run} (h : Heads s (start-of at) p) where
+module _ (s l : List ℕ) (at base : ℕ) (g : Ready s l (root base) (follow datagram s (from at))) (f : at ≤ length s) {p : WordsAt} (h : Heads s (start-of at) p) where
   -- its header was passed
   pub header-there : {x : Outcome} {r : Put} → p .passed ≡ passed.Stop x → r ≡ placed (root base) (follow datagram s (from at)) l
   header-there {x} w = absurd (stopped (subst Accepted (not-begun s (start-of at) x (halted s (start-of at) h w)) (g .good)))

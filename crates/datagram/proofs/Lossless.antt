@@ -9,11 +9,11 @@ use Rattle.reading.specs.Answer.{Fields}
 use Rattle.xdr.specs.Shown.{answer-of}
 use Rattle.xdr.proofs.Settles.{Lossless, got-back}
 use Rattle.xdr.proofs.Lossless.{outcome-of, word-at, address-at}
-use Rattle.flows.specs.declared.frames.Scanned.{Scanned}
-use Rattle.flows.specs.declared.frames.Scanned.the-variants as scanned
-use Rattle.flows.specs.declared.put.Written.{Written}
-use Rattle.flows.specs.Scanned.{scanned-out}
-use Rattle.flows.specs.Written.{Put, written}
+use Rattle.layout.specs.declared.frames.Scanned.{Scanned}
+use Rattle.layout.specs.declared.frames.Scanned.the-variants as scanned
+use Rattle.store.specs.declared.Written.{Written}
+use Rattle.layout.specs.Scanned.{scanned-out}
+use Rattle.store.specs.Written.{Put, written}
 use Rattle.datagram.specs.declared.decode.Answer.{Answer}
 use Rattle.datagram.specs.declared.decode.Decoded.{Decoded}
 use Rattle.datagram.specs.declared.header.Header.{Header}

@@ -22,13 +22,13 @@ use Rattle.reading.proofs.Forward.{forward}
 use Rattle.xdr.specs.declared.Cursor.{Cursor}
 use Rattle.xdr.specs.declared.Outcome.{Outcome}
 use Rattle.xdr.specs.Shown.{place, refusal}
-use Rattle.flows.specs.declared.frames.Scanned.{Scanned}
-use Rattle.flows.specs.declared.frames.Scanned.the-variants as scanned
-use Rattle.flows.specs.declared.put.Written.{Written}
-use Rattle.flows.specs.Scanned.{Scan, scanned-out}
-use Rattle.flows.specs.Written.{Ready, Put, written, placed}
-use Rattle.flows.proofs.Scan.{scan-on}
-use Rattle.flows.proofs.Placing.{a-put, two-placed, at-is, word-is, store-is, put-kept}
+use Rattle.layout.specs.declared.frames.Scanned.{Scanned}
+use Rattle.layout.specs.declared.frames.Scanned.the-variants as scanned
+use Rattle.store.specs.declared.Written.{Written}
+use Rattle.layout.specs.Scanned.{Scan, scanned-out}
+use Rattle.store.specs.Written.{Ready, Put, written, placed}
+use Rattle.layout.proofs.Scan.{scan-on}
+use Rattle.store.proofs.Placing.{a-put, two-placed, at-is, word-is, store-is, put-kept}
 use Rattle.datagram.specs.Shown.{root, pen-at}
 
 -- ---- the first pass

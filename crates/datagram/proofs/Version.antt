@@ -15,7 +15,7 @@ use Rattle.xdr.specs.declared.Word.{Word}
 use Rattle.xdr.specs.declared.Word.the-variants as a-word
 use Rattle.xdr.specs.Shown.{place, Inside, refused, word-out}
 use Rattle.xdr.proofs.Rows.{word-inside}
-use Rattle.flows.specs.Chain.{Then, goes, halts}
+use Rattle.layout.specs.Chain.{Then, goes, halts}
 
 module _ (s : List ℕ) (c : Cursor) {w : Word} (f : word-out w ≡ read-item word s (place c)) where
   pub no-version : {x : Outcome} {vs : List Value} → w ≡ a-word.Stop x → Then (version ∷ []) s (passed.Got c) (passed.Stop x) vs

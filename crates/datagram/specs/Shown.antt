@@ -13,9 +13,9 @@ use Rattle.xdr.specs.declared.Cursor.{Cursor}
 use Rattle.xdr.specs.declared.Passed.{Passed}
 use Rattle.xdr.specs.declared.Passed.the-variants as passed
 use Rattle.xdr.specs.Shown.{place, an-address}
-use Rattle.flows.specs.declared.next.Run.{Run}
-use Rattle.flows.specs.declared.put.Pen.{Pen}
-use Rattle.flows.specs.Chain.{Then, Ends, There}
+use Rattle.layout.specs.declared.field.WordsAt.{WordsAt}
+use Rattle.store.specs.declared.Pen.{Pen}
+use Rattle.layout.specs.Chain.{Then, Ends, There}
 use Rattle.datagram.specs.declared.decode.Answer.{Answer}
 use Rattle.datagram.specs.declared.decode.Decoded.{Decoded}
 use Rattle.datagram.specs.declared.header.Header.{Header}
@@ -26,7 +26,7 @@ header-fields r =
     ∷ number (r .«num_samples») ∷ []
 
 -- a header that is passed, by where its four words begin
-pub record Heads (s : List ℕ) (c : Cursor) (r : Run) : Type 0 where
+pub record Heads (s : List ℕ) (c : Cursor) (r : WordsAt) : Type 0 where
   pub behind : Passed
   pub first : Ends (version ∷ addr ∷ []) s (passed.Got c) behind
   pub rest : Then (words 4) s behind (r .passed) (numbers 4 s (r .at))

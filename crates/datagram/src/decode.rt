@@ -5,9 +5,9 @@ ghost use Rattle.datagram.specs.Shown.{decoded, Refuses, Is-read, Accept
 use crate::header::version_at;
 use crate::one::judge;
 use crate::one::put_datagram;
-use flows::frames::Scanned;
-use flows::next;
-use flows::put::DESCRIPTOR_WORDS;
+use layout::field;
+use layout::frames::Scanned;
+use store::DESCRIPTOR_WORDS;
 use xdr::Address;
 use xdr::Cursor;
 use xdr::Passed;
@@ -60,15 +60,15 @@ impl Decoded {
     {
         let first = version_at(Cursor { at: 0, steps: 0 }, s);
         let passed = first.passed;
-        let agent = next::address(passed, s);
+        let agent = field::address(passed, s);
         let passed = agent.passed;
         let agent_address = agent.address;
-        let row = next::words(passed, s, 4);
+        let row = field::words(passed, s, 4);
         let passed = row.passed;
         match passed {
             Passed::Stop(r) => Decoded::refused(r.code, r.at, r.steps, 0),
             Passed::Got(_) => {
-                let words = next::load_words(s, row.at, 4);
+                let words = field::load_words(s, row.at, 4);
                 Decoded {
                     answer: Answer {
                         code: 0,

@@ -6,12 +6,12 @@ ghost use Rattle.reading.specs.Layout.{version, addr, words};
 ghost use Rattle.reading.specs.Values.{zeros};
 ghost use Rattle.reading.specs.Answer.{layout-of};
 ghost use Rattle.xdr.specs.Shown.{Inside, Answers, refused};
-ghost use Rattle.flows.specs.Chain.{Within, Then};
+ghost use Rattle.layout.specs.Chain.{Within, Then};
 ghost use Rattle.datagram.specs.Shown.{header-fields, Heads};
-use flows::next;
-use flows::next::Number;
-use flows::next::Run;
-use flows::pass::Row;
+use layout::field;
+use layout::field::Number;
+use layout::field::WordsAt;
+use layout::pass::Row;
 use xdr::Address;
 use xdr::Cursor;
 use xdr::Outcome;
@@ -69,7 +69,7 @@ pub fn version_at(c: Cursor, s: &[u8]) -> Number
 }
 
 // The header, passed; and where its four words begin.
-pub fn row(c: Cursor, s: &[u8]) -> Run
+pub fn row(c: Cursor, s: &[u8]) -> WordsAt
     requires { ⌜ Inside (now s) c ⌝ }
     ensures { λ r. ⌜ Heads (now (s .entry)) c r ⌝ }
 {
@@ -77,7 +77,7 @@ pub fn row(c: Cursor, s: &[u8]) -> Run
     let passed = first.passed;
     let agent = Row { passed: passed }.address(s);
     let passed = agent.passed;
-    next::words(passed, s, 4)
+    field::words(passed, s, 4)
 }
 
 impl Header {
@@ -104,15 +104,15 @@ impl Header {
     {
         let first = version(p, s);
         let passed = first.passed;
-        let agent = next::address(passed, s);
+        let agent = field::address(passed, s);
         let passed = agent.passed;
         let agent_address = agent.address;
-        let row = next::words(passed, s, 4);
+        let row = field::words(passed, s, 4);
         let passed = row.passed;
         match passed {
             Passed::Stop(r) => Header::none(r),
             Passed::Got(d) => {
-                let words = next::load_words(s, row.at, 4);
+                let words = field::load_words(s, row.at, 4);
                 Header {
                     outcome: d.accepted(),
                     version: first.value,

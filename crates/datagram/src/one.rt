@@ -8,27 +8,27 @@ ghost use Rattle.reading.specs.Layout.{datagram, sample};
 ghost use Rattle.reading.specs.Answer.{from};
 ghost use Rattle.reading.proofs.Counts.{counted};
 ghost use Rattle.xdr.specs.Shown.{place};
-ghost use Rattle.flows.specs.Scanned.{Scan, scanned-out};
-ghost use Rattle.flows.specs.Written.{Ready, written, placed};
+ghost use Rattle.layout.specs.Scanned.{Scan, scanned-out};
+ghost use Rattle.store.specs.Written.{Ready, written, placed};
 ghost use Rattle.samples.specs.Held.{Counted, Has-last, rest-of};
 ghost use Rattle.datagram.specs.Shown.{root};
 use crate::header;
-use flows::frames::Scanned;
-use flows::next::Run;
-use flows::put::DESCRIPTOR_WORDS;
-use flows::put::Descriptor;
-use flows::put::Pen;
-use flows::put::Written;
-use flows::put::put;
+use layout::field::WordsAt;
+use layout::frames::Scanned;
 use numbers::DataFormat;
 use samples::put::put_samples;
 use samples::scan;
+use store::DESCRIPTOR_WORDS;
+use store::Descriptor;
+use store::Pen;
+use store::Written;
+use store::put;
 use xdr::Cursor;
 use xdr::Passed;
 use xdr::load;
 
 // The samples behind a header, where that was passed, on top of `count` descriptors and the datagram's own; its last word counts them.
-fn samples_behind(s: &[u8], row: Run, count: usize) -> Scanned
+fn samples_behind(s: &[u8], row: WordsAt, count: usize) -> Scanned
     requires { ⌜ Counted (now s) (row .passed) (count + 1) ⌝ }
     requires { ⌜ Has-last (now s) (row .passed) (row .at) 12 ⌝ }
     ensures { λ r. ⌜ scanned-out r ≡ rest-of (sample 8) (now (s .entry)) (row .passed) (be4 (now (s .entry)) (row .at + 12)) (count + 1) ⌝ }

@@ -9,16 +9,16 @@ ghost use Rattle.reading.proofs.Counts.{counted};
 ghost use Rattle.reading.proofs.Places.{ranges-of, end-of};
 ghost use Rattle.reading.proofs.Runs.{run-from};
 ghost use Rattle.reading.proofs.Stored.{write};
-ghost use Rattle.flows.specs.Scanned.{scanned-out};
-ghost use Rattle.flows.specs.Written.{Ready, written, placed};
+ghost use Rattle.layout.specs.Scanned.{scanned-out};
+ghost use Rattle.store.specs.Written.{Ready, written, placed};
 ghost use Rattle.datagram.specs.Shown.{root, pen-at, ran};
 use crate::decode::Answer;
 use crate::one::judge;
 use crate::one::put_datagram;
-use flows::frames::Scanned;
-use flows::put::DESCRIPTOR_WORDS;
-use flows::put::Written;
-use flows::put::index_at;
+use layout::frames::Scanned;
+use store::DESCRIPTOR_WORDS;
+use store::Written;
+use store::index_at;
 use xdr::Cursor;
 
 // The first pass. Code 2 ends the run where the datagram that it stops began.

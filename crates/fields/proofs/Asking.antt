@@ -15,8 +15,8 @@ use Rattle.xdr.specs.declared.Outcome.{Outcome}
 use Rattle.xdr.specs.declared.Passed.{Passed}
 use Rattle.xdr.specs.declared.Passed.the-variants as passed
 use Rattle.xdr.specs.Shown.{answer-of, Answers}
-use Rattle.flows.specs.declared.put.Descriptor.{Descriptor}
-use Rattle.flows.specs.Chain.{Within, inside, over}
+use Rattle.store.specs.declared.Descriptor.{Descriptor}
+use Rattle.layout.specs.Chain.{Within, inside, over}
 use Rattle.fields.specs.declared.ask.Asked.{Asked}
 use Rattle.fields.specs.Shown.{read-of, unread, not-asked, Asks}
 

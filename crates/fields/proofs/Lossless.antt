@@ -5,7 +5,7 @@ use Rattle.reading.specs.Answer.{Fields}
 use Rattle.xdr.specs.Shown.{answer-of}
 use Rattle.xdr.proofs.Settles.{Lossless, got-back}
 use Rattle.xdr.proofs.Lossless.{outcome-of, word-at, bytes-at, address-at, range-at}
-use Rattle.flows.specs.declared.lists.Segment.{Segment}
+use Rattle.layout.specs.declared.lists.Segment.{Segment}
 use Rattle.flows.specs.declared.sampled.SampledHeader.{SampledHeader}
 use Rattle.flows.specs.declared.sampled.SampledEthernet.{SampledEthernet}
 use Rattle.flows.specs.declared.sampled.SampledIpv4.{SampledIpv4}
@@ -26,7 +26,8 @@ use Rattle.flows.specs.declared.wireless.Extended80211Payload.{Extended80211Pay
 use Rattle.flows.specs.declared.wireless.Extended80211Rx.{Extended80211Rx}
 use Rattle.flows.specs.declared.wireless.Extended80211Tx.{Extended80211Tx}
 use Rattle.flows.specs.declared.wireless.Extended80211Aggregation.{Extended80211Aggregation}
-use Rattle.flows.specs.Shown.{a-segment, sampled-header, sampled-ethernet, sampled-ipv4, sampled-ipv6, extended-switch, extended-router, extended-gateway, extended-user, extended-url, extended-mpls, extended-nat, extended-mpls-tunnel, extended-mpls-vc, extended-mpls-fec, extended-mpls-lvp-fec, extended-vlan-tunnel, extended-80211-payload, extended-80211-rx, extended-80211-tx, extended-80211-aggregation}
+use Rattle.layout.specs.Shown.{a-segment}
+use Rattle.flows.specs.Shown.{sampled-header, sampled-ethernet, sampled-ipv4, sampled-ipv6, extended-switch, extended-router, extended-gateway, extended-user, extended-url, extended-mpls, extended-nat, extended-mpls-tunnel, extended-mpls-vc, extended-mpls-fec, extended-mpls-lvp-fec, extended-vlan-tunnel, extended-80211-payload, extended-80211-rx, extended-80211-tx, extended-80211-aggregation}
 use Rattle.samples.specs.declared.fields.FlowSample.{FlowSample}
 use Rattle.samples.specs.declared.fields.CountersSample.{CountersSample}
 use Rattle.samples.specs.declared.fields.FlowSampleExpanded.{FlowSampleExpanded}

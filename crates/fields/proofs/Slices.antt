@@ -20,7 +20,7 @@ use Rattle.xdr.specs.declared.Span.{Span}
 use Rattle.xdr.specs.declared.Passed.{Passed}
 use Rattle.xdr.specs.declared.Passed.the-variants as passed
 use Rattle.xdr.specs.Shown.{span, answer-of, Answers}
-use Rattle.flows.specs.Chain.{Within, inside, over}
+use Rattle.layout.specs.Chain.{Within, inside, over}
 use Rattle.fields.specs.Shown.{unread, Begins}
 
 -- ---- the payload

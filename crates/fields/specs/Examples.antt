@@ -6,7 +6,7 @@ use mathlib.Core.Bool.{true, false}
 use mathlib.Core.List.{List, [], _∷_, map}
 use Rattle.reading.specs.Examples.{Result, of-word, Example, list-words}
 use Rattle.reading.specs.Answer.{read}
-use Rattle.flows.specs.declared.put.Descriptor.{Descriptor}
+use Rattle.store.specs.declared.Descriptor.{Descriptor}
 use Rattle.fields.specs.Shown.{read-of, listed}
 use Rattle.fields.specs.declared.parts.Listed.{Listed}
 

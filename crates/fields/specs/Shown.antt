@@ -8,8 +8,8 @@ use Rattle.reading.specs.Answer.{Fields, answered, layout-of, read, segment-fie
 use Rattle.xdr.specs.declared.Passed.{Passed}
 use Rattle.xdr.specs.declared.Passed.the-variants as passed
 use Rattle.xdr.specs.Shown.{read-on}
-use Rattle.flows.specs.declared.put.Descriptor.{Descriptor}
-use Rattle.flows.specs.Chain.{Within}
+use Rattle.store.specs.declared.Descriptor.{Descriptor}
+use Rattle.layout.specs.Chain.{Within}
 use Rattle.fields.specs.declared.ask.Asked.{Asked}
 use Rattle.fields.specs.declared.parts.Listed.{Listed}
 

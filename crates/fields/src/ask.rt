@@ -1,7 +1,7 @@
 // What comes before every field reading: whether the descriptor is one that it reads, and lies in the input.
 ghost use mathlib.Core.Path.{_≡_};
 ghost use Rattle.fields.specs.Shown.{Asks, not-asked, unread};
-use flows::put::Descriptor;
+use store::Descriptor;
 use xdr::Cursor;
 use xdr::Outcome;
 use xdr::Passed;

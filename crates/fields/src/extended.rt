@@ -11,7 +11,7 @@ use flows::extended::ExtendedSwitch;
 use flows::extended::ExtendedUrl;
 use flows::extended::ExtendedUser;
 use flows::extended::ExtendedVlanTunnel;
-use flows::put::Descriptor;
+use store::Descriptor;
 
 pub fn extended_switch(s: &[u8], d: Descriptor) -> ExtendedSwitch
     ensures { λ r. ⌜ answer-of (r .outcome) (extended-switch r) ≡ read-of 2 1001 (now (s .entry)) d ⌝ }

@@ -5,7 +5,7 @@ ghost use Rattle.datagram.specs.Shown.{header-fields};
 ghost use Rattle.fields.specs.Shown.{read-of};
 use crate::ask::ask;
 use datagram::header::Header;
-use flows::put::Descriptor;
+use store::Descriptor;
 
 pub fn header(s: &[u8], d: Descriptor) -> Header
     ensures { λ r. ⌜ answer-of (r .outcome) (header-fields r) ≡ read-of 0 0 (now (s .entry)) d ⌝ }

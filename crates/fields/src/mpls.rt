@@ -9,7 +9,7 @@ use flows::mpls::ExtendedMplsFec;
 use flows::mpls::ExtendedMplsLvpFec;
 use flows::mpls::ExtendedMplsTunnel;
 use flows::mpls::ExtendedMplsVc;
-use flows::put::Descriptor;
+use store::Descriptor;
 
 pub fn extended_mpls(s: &[u8], d: Descriptor) -> ExtendedMpls
     ensures { λ r. ⌜ answer-of (r .outcome) (extended-mpls r) ≡ read-of 2 1006 (now (s .entry)) d ⌝ }

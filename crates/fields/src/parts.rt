@@ -2,11 +2,11 @@
 ghost use mathlib.Core.Path.{_≡_};
 ghost use Rattle.reading.specs.Answer.{payload-span, whole-span, payload, list-word, segment-at};
 ghost use Rattle.xdr.specs.Shown.{span, answer-of};
-ghost use Rattle.flows.specs.Shown.{a-segment};
+ghost use Rattle.layout.specs.Shown.{a-segment};
 ghost use Rattle.fields.specs.Shown.{listed, Begins};
 use crate::ask::unread;
-use flows::lists::Segment;
-use flows::put::Descriptor;
+use layout::lists::Segment;
+use store::Descriptor;
 use xdr::Cursor;
 use xdr::Passed;
 use xdr::Span;

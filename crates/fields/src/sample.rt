@@ -4,12 +4,12 @@ ghost use Rattle.xdr.specs.Shown.{answer-of};
 ghost use Rattle.samples.specs.Shown.{flow-sample, counters-sample, flow-sample-expanded, counters-sample-expanded, discarded-packet};
 ghost use Rattle.fields.specs.Shown.{read-of};
 use crate::ask::ask;
-use flows::put::Descriptor;
 use samples::fields::CountersSample;
 use samples::fields::CountersSampleExpanded;
 use samples::fields::DiscardedPacket;
 use samples::fields::FlowSample;
 use samples::fields::FlowSampleExpanded;
+use store::Descriptor;
 
 pub fn flow_sample(s: &[u8], d: Descriptor) -> FlowSample
     ensures { λ r. ⌜ answer-of (r .outcome) (flow-sample r) ≡ read-of 1 1 (now (s .entry)) d ⌝ }

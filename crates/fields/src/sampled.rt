@@ -4,11 +4,11 @@ ghost use Rattle.xdr.specs.Shown.{answer-of};
 ghost use Rattle.flows.specs.Shown.{sampled-header, sampled-ethernet, sampled-ipv4, sampled-ipv6};
 ghost use Rattle.fields.specs.Shown.{read-of};
 use crate::ask::ask;
-use flows::put::Descriptor;
 use flows::sampled::SampledEthernet;
 use flows::sampled::SampledHeader;
 use flows::sampled::SampledIpv4;
 use flows::sampled::SampledIpv6;
+use store::Descriptor;
 
 pub fn sampled_header(s: &[u8], d: Descriptor) -> SampledHeader
     ensures { λ r. ⌜ answer-of (r .outcome) (sampled-header r) ≡ read-of 2 1 (now (s .entry)) d ⌝ }

@@ -4,11 +4,11 @@ ghost use Rattle.xdr.specs.Shown.{answer-of};
 ghost use Rattle.flows.specs.Shown.{extended-80211-payload, extended-80211-rx, extended-80211-tx, extended-80211-aggregation};
 ghost use Rattle.fields.specs.Shown.{read-of};
 use crate::ask::ask;
-use flows::put::Descriptor;
 use flows::wireless::Extended80211Aggregation;
 use flows::wireless::Extended80211Payload;
 use flows::wireless::Extended80211Rx;
 use flows::wireless::Extended80211Tx;
+use store::Descriptor;
 
 pub fn extended_80211_payload(s: &[u8], d: Descriptor) -> Extended80211Payload
     ensures { λ r. ⌜ answer-of (r .outcome) (extended-80211-payload r) ≡ read-of 2 1013 (now (s .entry)) d ⌝ }

@@ -26,16 +26,17 @@ use Rattle.xdr.specs.declared.Passed.the-variants as passed
 use Rattle.xdr.specs.declared.Word.the-variants as a-word
 use Rattle.xdr.specs.Shown.{place, Inside, behind, passed-out}
 use Rattle.xdr.proofs.Laws.{word-got}
-use Rattle.flows.specs.declared.frames.Frame.{Frame}
-use Rattle.flows.specs.declared.frames.Frame.the-variants as frame
-use Rattle.flows.specs.declared.frames.Scanned.the-variants as scanned
-use Rattle.flows.specs.Scanned.{Scan, frame-out}
-use Rattle.flows.specs.Chain.{Then, goes, Ends, ends}
+use Rattle.layout.specs.declared.frames.Frame.{Frame}
+use Rattle.layout.specs.declared.frames.Frame.the-variants as frame
+use Rattle.layout.specs.declared.frames.Scanned.the-variants as scanned
+use Rattle.layout.specs.Scanned.{Scan, frame-out}
+use Rattle.layout.specs.Chain.{Then, goes, Ends, ends}
 use Rattle.flows.specs.Passing.{Passes, Passes-record}
-use Rattle.flows.proofs.Chain.{both, item-goes, unsure}
+use Rattle.layout.proofs.Chain.{both, item-goes, unsure}
 use Rattle.flows.proofs.Formats.{arm}
-use Rattle.flows.proofs.Protocols.{known-protocol}
-use Rattle.flows.proofs.Scan.{scan-inside, scan-short, scan-on, scan-turn, flow-thrift, frame-ends, frame-fits, frame-part, frame-scan, record-got, data-got}
+use Rattle.layout.proofs.Protocols.{known-protocol}
+use Rattle.layout.proofs.Scan.{scan-inside, scan-short, scan-on, scan-turn, frame-ends, frame-fits, frame-part, frame-scan}
+use Rattle.flows.proofs.Scan.{flow-thrift, record-got, data-got}
 
 -- ---- a payload
 module _ (k : ℕ) (s : List ℕ) (c : Cursor) (f : ℕ) where

@@ -3,28 +3,16 @@ use Prim.Native.Nat.{ℕ}
 use mathlib.Core.Path.{_≡_, sym, ap, _∙_}
 use mathlib.Core.List.{List}
 use borrow.Author.Tests.{ne-eqb}
-use Rattle.reading.specs.Script.{Value, nothing, Script, give}
+use Rattle.reading.specs.Script.{nothing, Script, give}
 use Rattle.reading.specs.Cursor.{got, follow}
-use Rattle.reading.specs.Layout.{Field, fields, opened, flows}
+use Rattle.reading.specs.Layout.{fields, opened, flows}
 use Rattle.reading.specs.Answer.{layout-of}
-use Rattle.reading.proofs.Fields.{fields-then, shown-reads, shown-halts}
 use Rattle.xdr.specs.declared.Cursor.{Cursor}
 use Rattle.xdr.specs.declared.Passed.{Passed}
 use Rattle.xdr.specs.declared.Passed.the-variants as passed
-use Rattle.xdr.specs.Shown.{place, Reads, passed-out}
-use Rattle.flows.specs.Chain.{goes, halts, Ends, ends}
-
--- fields alone
-pub flat : (l : List Field) (s : List ℕ) (c : Cursor) {vs : List Value} (p : Passed) → Reads l s c p vs → passed-out p nothing ≡ follow (fields l (λ _. give nothing)) s (place c)
-unfolding follow
-flat l s c (passed.Got d) e = sym (fields-then l _ s (place c) ∙ rw (shown-reads l s (place c) (e .is)))
-flat l s c (passed.Stop x) e = sym (fields-then l _ s (place c) ∙ rw (shown-halts l s (place c) (e .is)))
-
--- a layout that was passed, whatever its values
-whole : (l : List Field) (s : List ℕ) (c : Cursor) {p : Passed} → Ends l s (passed.Got c) p → passed-out p nothing ≡ follow (fields l (λ _. give nothing)) s (place c)
-unfolding follow
-whole l s c (ends (goes e i)) = sym (fields-then l _ s (place c) ∙ rw e)
-whole l s c (ends (halts e)) = sym (fields-then l _ s (place c) ∙ rw e)
+use Rattle.xdr.specs.Shown.{place, passed-out}
+use Rattle.layout.specs.Chain.{Ends}
+use Rattle.layout.proofs.Whole.{whole}
 
 pub arm : (k : ℕ) (s : List ℕ) (c : Cursor) (f : ℕ) {p : Passed} → Ends (layout-of 2 k) s (passed.Got c) p → f ≡ k
     → opened (flows (give nothing)) k ≡ fields (layout-of 2 k) (λ _. give nothing)

@@ -1,13 +1,10 @@
 -- Made by tests/examples/make, from the memo's structures: the flow records by the names of their fields, as the
 -- examples of `reading` have them. Assumes nothing.
 use mathlib.Core.Path.{_≡_, refl}
-use mathlib.Core.List.{List, [], _∷_, _++_, map}
-use Rattle.reading.specs.Examples.{Result, of-fields, Example, flow-records, segments}
+use mathlib.Core.List.{List, [], _∷_, map}
+use Rattle.reading.specs.Examples.{Result, of-fields, Example, flow-records}
 use Rattle.xdr.specs.Shown.{answer-of}
-use Rattle.flows.specs.Shown.{sampled-header, sampled-ethernet, sampled-ipv4, sampled-ipv6, extended-switch, extended-router, extended-gateway, extended-user, extended-url, extended-mpls, extended-nat, extended-mpls-tunnel, extended-mpls-vc, extended-mpls-fec, extended-mpls-lvp-fec, extended-vlan-tunnel, extended-80211-payload, extended-80211-rx, extended-80211-tx, extended-80211-aggregation, a-segment}
-use Rattle.reading.specs.Answer.{row-of}
-use Rattle.flows.specs.Written.{range-of}
-use Rattle.flows.specs.declared.put.Descriptor.{Descriptor}
+use Rattle.flows.specs.Shown.{sampled-header, sampled-ethernet, sampled-ipv4, sampled-ipv6, extended-switch, extended-router, extended-gateway, extended-user, extended-url, extended-mpls, extended-nat, extended-mpls-tunnel, extended-mpls-vc, extended-mpls-fec, extended-mpls-lvp-fec, extended-vlan-tunnel, extended-80211-payload, extended-80211-rx, extended-80211-tx, extended-80211-aggregation}
 use Rattle.flows.specs.declared.sampled.SampledHeader.{SampledHeader}
 use Rattle.flows.specs.declared.sampled.SampledEthernet.{SampledEthernet}
 use Rattle.flows.specs.declared.sampled.SampledIpv4.{SampledIpv4}
@@ -28,7 +25,6 @@ use Rattle.flows.specs.declared.wireless.Extended80211Payload.{Extended8
 use Rattle.flows.specs.declared.wireless.Extended80211Rx.{Extended80211Rx}
 use Rattle.flows.specs.declared.wireless.Extended80211Tx.{Extended80211Tx}
 use Rattle.flows.specs.declared.wireless.Extended80211Aggregation.{Extended80211Aggregation}
-use Rattle.flows.specs.declared.lists.Segment.{Segment}
 
 -- sampled_header, format 1
 flow-1 : SampledHeader
@@ -110,13 +106,9 @@ flow-1015 = record { outcome = record { code = 0; at = 56; steps = 9 }; ssid = r
 flow-1016 : Extended80211Aggregation
 flow-1016 = record { outcome = record { code = 0; at = 8; steps = 1 }; «pdu_count» = 0x11121314 }
 
--- a segment of an AS path
-segment : Segment
-segment = record { outcome = record { code = 0; at = 20; steps = 4 }; kind = 1; path = record { start = 12; count = 2 } }
-
 -- what they are in the terms of the reading
 pub shown : List Result
-unfolding flow-1 flow-2 flow-3 flow-4 flow-1001 flow-1002 flow-1003 flow-1004 flow-1005 flow-1006 flow-1007 flow-1008 flow-1009 flow-1010 flow-1011 flow-1012 flow-1013 flow-1014 flow-1015 flow-1016 segment
+unfolding flow-1 flow-2 flow-3 flow-4 flow-1001 flow-1002 flow-1003 flow-1004 flow-1005 flow-1006 flow-1007 flow-1008 flow-1009 flow-1010 flow-1011 flow-1012 flow-1013 flow-1014 flow-1015 flow-1016
 shown =
     of-fields (answer-of (flow-1 .outcome) (sampled-header flow-1))
     ∷ of-fields (answer-of (flow-2 .outcome) (sampled-ethernet flow-2))
@@ -138,17 +130,8 @@ shown =
     ∷ of-fields (answer-of (flow-1014 .outcome) (extended-80211-rx flow-1014))
     ∷ of-fields (answer-of (flow-1015 .outcome) (extended-80211-tx flow-1015))
     ∷ of-fields (answer-of (flow-1016 .outcome) (extended-80211-aggregation flow-1016))
-    ∷ of-fields (answer-of (segment .outcome) (a-segment segment))
     ∷ []
 
-pub the-names-hold : shown ≡ map (λ (e : Example). e .result) (flow-records ++ segments)
-unfolding shown flow-records segments
+pub the-names-hold : shown ≡ map (λ (e : Example). e .result) flow-records
+unfolding shown flow-records
 the-names-hold = refl
-
--- a descriptor's words in the store, by the names of its fields
-pub a-descriptor : Descriptor
-a-descriptor = record { kind = 11; format = record { 0 = 12 }; start = 13; length = 14; parent = 15; depth = 16; first = 17 }
-
-pub the-descriptor-holds : row-of (a-descriptor .parent) (range-of a-descriptor) ≡ 11 ∷ 12 ∷ 13 ∷ 14 ∷ 15 ∷ 16 ∷ 17 ∷ []
-unfolding a-descriptor
-the-descriptor-holds = refl

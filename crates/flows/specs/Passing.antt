@@ -12,10 +12,10 @@ use Rattle.xdr.specs.declared.Passed.{Passed}
 use Rattle.xdr.specs.declared.Passed.the-variants as passed
 use Rattle.xdr.specs.Shown.{place}
 use Rattle.flows.specs.declared.ahead.Ahead.{Ahead}
-use Rattle.flows.specs.declared.put.Pen.{Pen}
+use Rattle.store.specs.declared.Pen.{Pen}
 use Rattle.flows.specs.declared.put.Flat.{Flat}
-use Rattle.flows.specs.Scanned.{Scan}
-use Rattle.flows.specs.Written.{Ready, placed}
+use Rattle.layout.specs.Scanned.{Scan}
+use Rattle.store.specs.Written.{Ready, placed}
 
 -- where it is passed, the payload of a record of format f is read so, and is no aggregation
 pub record Passes (s : List ℕ) (c : Cursor) (f : ℕ) (r : Passed) : Type 0 where

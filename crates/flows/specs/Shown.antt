@@ -3,8 +3,7 @@ use Prim.Native.Nat.{ℕ}
 use mathlib.Core.List.{List, [], _∷_}
 use Rattle.reading.specs.Script.{Value, number, octets, part}
 use Rattle.xdr.specs.Shown.{span, an-address}
-use Rattle.flows.specs.Chain.{loaded}
-use Rattle.flows.specs.declared.lists.Segment.{Segment}
+use Rattle.layout.specs.Chain.{loaded}
 use Rattle.flows.specs.declared.sampled.SampledHeader.{SampledHeader}
 use Rattle.flows.specs.declared.sampled.SampledEthernet.{SampledEthernet}
 use Rattle.flows.specs.declared.sampled.SampledIpv4.{SampledIpv4}
@@ -27,9 +26,6 @@ use Rattle.flows.specs.declared.wireless.Extended80211Payload.{Extended8
 use Rattle.flows.specs.declared.wireless.Extended80211Rx.{Extended80211Rx}
 use Rattle.flows.specs.declared.wireless.Extended80211Tx.{Extended80211Tx}
 use Rattle.flows.specs.declared.wireless.Extended80211Aggregation.{Extended80211Aggregation}
-
-abbrev pub a-segment : Segment → List Value
-a-segment r = number (r .kind) ∷ part (span (r .path)) ∷ []
 
 abbrev pub sampled-header : SampledHeader → List Value
 sampled-header r = number (r .protocol) ∷ number (r .«frame_length») ∷ number (r .stripped) ∷ part (span (r .header)) ∷ []

@@ -3,11 +3,11 @@
 ghost use mathlib.Core.Path.{_≡_};
 ghost use Prim.Native.Nat.{_≤_};
 ghost use lib.ListN.{length};
-ghost use Rattle.flows.specs.Scanned.{Scan};
+ghost use Rattle.layout.specs.Scanned.{Scan};
 ghost use Rattle.flows.specs.Passing.{Passes, Passes-record, Ahead-of};
 ghost use Rattle.xdr.specs.Shown.{Inside};
-use crate::frames::Frame;
-use crate::pass::Row;
+use layout::frames::Frame;
+use layout::pass::Row;
 use xdr::Cursor;
 use xdr::Passed;
 use xdr::load;

@@ -4,7 +4,7 @@ ghost use Rattle.reading.specs.Script.{give, nothing};
 ghost use Rattle.reading.specs.Cursor.{follow};
 ghost use Rattle.reading.specs.Layout.{opened, flows};
 ghost use Rattle.xdr.specs.Shown.{Inside, place, passed-out};
-use crate::pass::Row;
+use layout::pass::Row;
 use xdr::Cursor;
 use xdr::Passed;
 

@@ -5,10 +5,10 @@ ghost use Rattle.reading.specs.Layout.{addr, list, segments, str, words};
 ghost use Rattle.reading.specs.Values.{zeros};
 ghost use Rattle.reading.specs.Answer.{layout-of};
 ghost use Rattle.xdr.specs.Shown.{Answers};
-ghost use Rattle.flows.specs.Chain.{Within, Then};
+ghost use Rattle.layout.specs.Chain.{Within, Then};
 ghost use Rattle.flows.specs.Shown.{extended-switch, extended-router, route, extended-gateway, extended-user, extended-url, extended-nat, extended-vlan-tunnel};
-use crate::next;
-use crate::next::Kind;
+use layout::field;
+use layout::field::Counted;
 use xdr::Address;
 use xdr::Outcome;
 use xdr::Passed;
@@ -29,7 +29,7 @@ impl ExtendedSwitch {
         requires { ⌜ Within (now s) p ⌝ }
         ensures { λ r. ⌜ Answers (layout-of 2 1001) (now (s .entry)) p (r .outcome) (extended-switch r) ⌝ }
     {
-        let row = next::words(p, s, 4);
+        let row = field::words(p, s, 4);
         let passed = row.passed;
         match passed {
             Passed::Stop(r) => ExtendedSwitch {
@@ -40,7 +40,7 @@ impl ExtendedSwitch {
                 dst_priority: 0,
             },
             Passed::Got(d) => {
-                let words = next::load_words(s, row.at, 4);
+                let words = field::load_words(s, row.at, 4);
                 ExtendedSwitch {
                     outcome: d.accepted(),
                     src_vlan: words[0],
@@ -67,10 +67,10 @@ impl ExtendedRouter {
         requires { ⌜ Within (now s) p ⌝ }
         ensures { λ r. ⌜ Answers (layout-of 2 1002) (now (s .entry)) p (r .outcome) (extended-router r) ⌝ }
     {
-        let hop = next::address(p, s);
+        let hop = field::address(p, s);
         let passed = hop.passed;
         let next_hop = hop.address;
-        let row = next::words(passed, s, 2);
+        let row = field::words(passed, s, 2);
         let passed = row.passed;
         match passed {
             Passed::Stop(r) => ExtendedRouter {
@@ -83,7 +83,7 @@ impl ExtendedRouter {
                 dst_mask_len: 0,
             },
             Passed::Got(d) => {
-                let masks = next::load_words(s, row.at, 2);
+                let masks = field::load_words(s, row.at, 2);
                 ExtendedRouter {
                     outcome: d.accepted(),
                     next_hop: next_hop,
@@ -108,13 +108,13 @@ impl Route {
         requires { ⌜ Within (now s) p ⌝ }
         ensures { λ r. ⌜ Then (segments ∷ list ∷ words 1) (now (s .entry)) p (r .passed) (route r) ⌝ }
     {
-        let path = next::range(p, s, Kind::Segments);
+        let path = field::range(p, s, Counted::Segments);
         let passed = path.passed;
         let dst_as_path = path.span;
-        let marks = next::range(passed, s, Kind::List);
+        let marks = field::range(passed, s, Counted::List);
         let passed = marks.passed;
         let communities = marks.span;
-        let pref = next::word(passed, s);
+        let pref = field::word(passed, s);
         let passed = pref.passed;
         Route {
             passed: passed,
@@ -161,10 +161,10 @@ impl ExtendedGateway {
         requires { ⌜ Within (now s) p ⌝ }
         ensures { λ r. ⌜ Answers (layout-of 2 1003) (now (s .entry)) p (r .outcome) (extended-gateway r) ⌝ }
     {
-        let hop = next::address(p, s);
+        let hop = field::address(p, s);
         let passed = hop.passed;
         let next_hop = hop.address;
-        let row = next::words(passed, s, 3);
+        let row = field::words(passed, s, 3);
         let passed = row.passed;
         let route = Route::parse(passed, s);
         let passed = route.passed;
@@ -174,7 +174,7 @@ impl ExtendedGateway {
         match passed {
             Passed::Stop(r) => ExtendedGateway::none(r),
             Passed::Got(d) => {
-                let numbers = next::load_words(s, row.at, 3);
+                let numbers = field::load_words(s, row.at, 3);
                 ExtendedGateway {
                     outcome: d.accepted(),
                     next_hop: next_hop,
@@ -217,16 +217,16 @@ impl ExtendedUser {
         requires { ⌜ Within (now s) p ⌝ }
         ensures { λ r. ⌜ Answers (layout-of 2 1004) (now (s .entry)) p (r .outcome) (extended-user r) ⌝ }
     {
-        let src = next::word(p, s);
+        let src = field::word(p, s);
         let passed = src.passed;
         let src_charset = src.value;
-        let src = next::text(passed, s);
+        let src = field::text(passed, s);
         let passed = src.passed;
         let src_user = src.span;
-        let dst = next::word(passed, s);
+        let dst = field::word(passed, s);
         let passed = dst.passed;
         let dst_charset = dst.value;
-        let dst = next::text(passed, s);
+        let dst = field::text(passed, s);
         let passed = dst.passed;
         let dst_user = dst.span;
         match passed {
@@ -256,12 +256,12 @@ impl ExtendedUrl {
         requires { ⌜ Within (now s) p ⌝ }
         ensures { λ r. ⌜ Answers (layout-of 2 1005) (now (s .entry)) p (r .outcome) (extended-url r) ⌝ }
     {
-        let way = next::word(p, s);
+        let way = field::word(p, s);
         let passed = way.passed;
-        let path = next::text(passed, s);
+        let path = field::text(passed, s);
         let passed = path.passed;
         let url = path.span;
-        let server = next::text(passed, s);
+        let server = field::text(passed, s);
         let passed = server.passed;
         let host = server.span;
         match passed {
@@ -294,10 +294,10 @@ impl ExtendedNat {
         requires { ⌜ Within (now s) p ⌝ }
         ensures { λ r. ⌜ Answers (layout-of 2 1007) (now (s .entry)) p (r .outcome) (extended-nat r) ⌝ }
     {
-        let src = next::address(p, s);
+        let src = field::address(p, s);
         let passed = src.passed;
         let src_address = src.address;
-        let dst = next::address(passed, s);
+        let dst = field::address(passed, s);
         let passed = dst.passed;
         let dst_address = dst.address;
         match passed {
@@ -333,7 +333,7 @@ impl ExtendedVlanTunnel {
         requires { ⌜ Within (now s) p ⌝ }
         ensures { λ r. ⌜ Answers (layout-of 2 1012) (now (s .entry)) p (r .outcome) (extended-vlan-tunnel r) ⌝ }
     {
-        let tags = next::range(p, s, Kind::List);
+        let tags = field::range(p, s, Counted::List);
         let passed = tags.passed;
         let stack = tags.span;
         match passed {

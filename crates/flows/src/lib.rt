@@ -3,11 +3,7 @@
 pub mod ahead;
 pub mod data;
 pub mod extended;
-pub mod frames;
-pub mod lists;
 pub mod mpls;
-pub mod next;
-pub mod pass;
 pub mod put;
 pub mod records;
 pub mod sampled;

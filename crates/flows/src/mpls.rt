@@ -5,10 +5,10 @@ ghost use Rattle.reading.specs.Layout.{addr, list};
 ghost use Rattle.reading.specs.Values.{zeros};
 ghost use Rattle.reading.specs.Answer.{layout-of};
 ghost use Rattle.xdr.specs.Shown.{Answers};
-ghost use Rattle.flows.specs.Chain.{Within};
+ghost use Rattle.layout.specs.Chain.{Within};
 ghost use Rattle.flows.specs.Shown.{extended-mpls, extended-mpls-tunnel, extended-mpls-vc, extended-mpls-fec, extended-mpls-lvp-fec};
-use crate::next;
-use crate::next::Kind;
+use layout::field;
+use layout::field::Counted;
 use xdr::Address;
 use xdr::Outcome;
 use xdr::Passed;
@@ -42,13 +42,13 @@ impl ExtendedMpls {
         requires { ⌜ Within (now s) p ⌝ }
         ensures { λ r. ⌜ Answers (layout-of 2 1006) (now (s .entry)) p (r .outcome) (extended-mpls r) ⌝ }
     {
-        let hop = next::address(p, s);
+        let hop = field::address(p, s);
         let passed = hop.passed;
         let next_hop = hop.address;
-        let came = next::range(passed, s, Kind::List);
+        let came = field::range(passed, s, Counted::List);
         let passed = came.passed;
         let in_stack = came.span;
-        let left = next::range(passed, s, Kind::List);
+        let left = field::range(passed, s, Counted::List);
         let passed = left.passed;
         let out_stack = left.span;
         match passed {
@@ -77,10 +77,10 @@ impl ExtendedMplsTunnel {
         requires { ⌜ Within (now s) p ⌝ }
         ensures { λ r. ⌜ Answers (layout-of 2 1008) (now (s .entry)) p (r .outcome) (extended-mpls-tunnel r) ⌝ }
     {
-        let name = next::text(p, s);
+        let name = field::text(p, s);
         let passed = name.passed;
         let tunnel_lsp_name = name.span;
-        let row = next::words(passed, s, 2);
+        let row = field::words(passed, s, 2);
         let passed = row.passed;
         match passed {
             Passed::Stop(r) => ExtendedMplsTunnel {
@@ -90,7 +90,7 @@ impl ExtendedMplsTunnel {
                 tunnel_cos: 0,
             },
             Passed::Got(d) => {
-                let words = next::load_words(s, row.at, 2);
+                let words = field::load_words(s, row.at, 2);
                 ExtendedMplsTunnel {
                     outcome: d.accepted(),
                     tunnel_lsp_name: tunnel_lsp_name,
@@ -117,10 +117,10 @@ impl ExtendedMplsVc {
         requires { ⌜ Within (now s) p ⌝ }
         ensures { λ r. ⌜ Answers (layout-of 2 1009) (now (s .entry)) p (r .outcome) (extended-mpls-vc r) ⌝ }
     {
-        let name = next::text(p, s);
+        let name = field::text(p, s);
         let passed = name.passed;
         let vc_instance_name = name.span;
-        let row = next::words(passed, s, 3);
+        let row = field::words(passed, s, 3);
         let passed = row.passed;
         match passed {
             Passed::Stop(r) => ExtendedMplsVc {
@@ -131,7 +131,7 @@ impl ExtendedMplsVc {
                 vc_cos: 0,
             },
             Passed::Got(d) => {
-                let words = next::load_words(s, row.at, 3);
+                let words = field::load_words(s, row.at, 3);
                 ExtendedMplsVc {
                     outcome: d.accepted(),
                     vc_instance_name: vc_instance_name,
@@ -157,10 +157,10 @@ impl ExtendedMplsFec {
         requires { ⌜ Within (now s) p ⌝ }
         ensures { λ r. ⌜ Answers (layout-of 2 1010) (now (s .entry)) p (r .outcome) (extended-mpls-fec r) ⌝ }
     {
-        let prefix = next::address(p, s);
+        let prefix = field::address(p, s);
         let passed = prefix.passed;
         let fec_addr_prefix = prefix.address;
-        let size = next::word(passed, s);
+        let size = field::word(passed, s);
         let passed = size.passed;
         match passed {
             Passed::Stop(r) => ExtendedMplsFec {
@@ -192,7 +192,7 @@ impl ExtendedMplsLvpFec {
         requires { ⌜ Within (now s) p ⌝ }
         ensures { λ r. ⌜ Answers (layout-of 2 1011) (now (s .entry)) p (r .outcome) (extended-mpls-lvp-fec r) ⌝ }
     {
-        let row = next::words(p, s, 1);
+        let row = field::words(p, s, 1);
         let passed = row.passed;
         match passed {
             Passed::Stop(r) => ExtendedMplsLvpFec {
@@ -200,7 +200,7 @@ impl ExtendedMplsLvpFec {
                 mpls_fec_addr_prefix_length: 0,
             },
             Passed::Got(d) => {
-                let words = next::load_words(s, row.at, 1);
+                let words = field::load_words(s, row.at, 1);
                 ExtendedMplsLvpFec {
                     outcome: d.accepted(),
                     mpls_fec_addr_prefix_length: words[0],

@@ -1,95 +1,22 @@
 // Flow records as descriptors: a second pass over what the first has accepted, which goes by frames alone.
 ghost use mathlib.Core.Path.{_≡_};
-ghost use Prim.Native.Nat.{_+_, _-_, _/_, _^_, _≤_, _<_};
+ghost use Prim.Native.Nat.{_-_, _≤_};
 ghost use lib.ListN.{length};
 ghost use Rattle.reading.specs.Bytes.{be4};
 ghost use Rattle.reading.specs.Cursor.{times, follow};
 ghost use Rattle.reading.specs.Layout.{opened, flows, flow, pdu};
-ghost use Rattle.reading.specs.Answer.{row-words, row-of, from};
-ghost use Rattle.reading.proofs.Stored.{write};
-ghost use Rattle.flows.specs.Written.{Ready, range-of, Framed-here, held-by, written, framed-at, placed, filled, fills};
+ghost use Rattle.reading.specs.Answer.{from};
+ghost use Rattle.store.specs.Written.{Ready, held-by, written, placed, filled, fills};
 ghost use Rattle.flows.specs.Passing.{Flat-of};
 use numbers::DataFormat;
+use store::DESCRIPTOR_WORDS;
+use store::Descriptor;
+use store::Pen;
+use store::Written;
+use store::index_at;
+use store::put;
+use store::put_frame;
 use xdr::load;
-
-// Where descriptors go: the index of this part's first, the parent's index, and the word of this part where the next one begins.
-pub struct Pen {
-    pub base: u32,
-    pub parent: u32,
-    pub word: usize,
-}
-
-// Where a pass has come to: the next byte, and the word where the next descriptor begins.
-pub struct Written {
-    pub at: usize,
-    pub word: usize,
-}
-
-// A descriptor, word for word.
-pub struct Descriptor {
-    pub kind: u32,
-    pub format: DataFormat,
-    pub start: u32,
-    pub length: u32,
-    pub parent: u32,
-    pub depth: u32,
-    pub first: u32,
-}
-
-// The words of a descriptor in the store.
-pub const DESCRIPTOR_WORDS: usize = 7;
-
-// The index of the descriptor that begins at a word.
-pub fn index_at(base: u32, word: usize) -> u32
-    requires { ⌜ base + word / row-words < 2 ^ 32 ⌝ }
-    ensures { λ r. ⌜ r ≡ base + word / row-words ⌝ }
-{
-    base + (word / DESCRIPTOR_WORDS) as u32
-}
-
-// The one place that stores.
-pub fn put(store: &mut [u32], at: usize, d: Descriptor)
-    requires { ⌜ at + row-words ≤ length (now store) ⌝ }
-    ensures { λ r. ⌜ now (store .exit) ≡ write (now (store .entry)) at (row-of (d .parent) (range-of d)) ⌝ }
-{
-    store[at] = d.kind;
-    store[at + 1] = d.format.0;
-    store[at + 2] = d.start;
-    store[at + 3] = d.length;
-    store[at + 4] = d.parent;
-    store[at + 5] = d.depth;
-    store[at + 6] = d.first;
-}
-
-// The descriptor of the frame at `at`; past the frame.
-pub fn put_frame(s: &[u8], at: usize, kind: u32, depth: u32, store: &mut [u32], pen: Pen) -> Written
-    requires { ⌜ Framed-here (now s) (now store) at pen ⌝ }
-    ensures { λ r. ⌜ written r (now (store .exit)) ≡ framed-at kind depth (now (s .entry)) at pen (now (store .entry)) ⌝ }
-{
-    let format = load::be32(s, at);
-    let length = load::be32(s, at + 4);
-    let start = at + 8;
-    let count = length as usize;
-    let padded = load::padded(count);
-    let word = pen.word;
-    put(
-        store,
-        word,
-        Descriptor {
-            kind: kind,
-            format: DataFormat(format),
-            start: start as u32,
-            length: length,
-            parent: pen.parent,
-            depth: depth,
-            first: at as u32,
-        },
-    );
-    Written {
-        at: start + padded,
-        word: word + DESCRIPTOR_WORDS,
-    }
-}
 
 // Where flat records end: the next byte, the word where the next descriptor begins, and the records that are left.
 pub struct Flat {

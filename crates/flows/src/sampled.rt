@@ -6,62 +6,12 @@ ghost use Rattle.reading.specs.Layout.{bytes, protocol, words};
 ghost use Rattle.reading.specs.Values.{zeros};
 ghost use Rattle.reading.specs.Answer.{layout-of};
 ghost use Rattle.xdr.specs.Shown.{Inside, Answers, refused};
-ghost use Rattle.flows.specs.Chain.{Within, Then};
+ghost use Rattle.layout.specs.Chain.{Within, Then};
 ghost use Rattle.flows.specs.Shown.{sampled-header, sampled-ethernet, sampled-ipv4, sampled-ipv6};
-use crate::next;
-use crate::next::Number;
-use xdr::Cursor;
+use layout::field;
 use xdr::Outcome;
 use xdr::Passed;
 use xdr::Span;
-use xdr::Word;
-
-// The protocol of a header, one of those that `HeaderProtocol` knows.
-pub fn protocol(p: Passed, s: &[u8]) -> Number
-    requires { ⌜ Within (now s) p ⌝ }
-    ensures { λ r. ⌜ Then (protocol ∷ []) (now (s .entry)) p (r .passed) (number (r .value) ∷ []) ⌝ }
-{
-    match p {
-        Passed::Stop(r) => Number {
-            passed: Passed::Stop(r),
-            value: 0,
-        },
-        Passed::Got(c) => protocol_at(c, s),
-    }
-}
-
-fn protocol_at(c: Cursor, s: &[u8]) -> Number
-    requires { ⌜ Inside (now s) c ⌝ }
-    ensures { λ r. ⌜ Then (protocol ∷ []) (now (s .entry)) (Passed.Got c) (r .passed) (number (r .value) ∷ []) ⌝ }
-{
-    match c.read_u32(s) {
-        Word::Stop(r) => Number {
-            passed: Passed::Stop(r),
-            value: 0,
-        },
-        Word::Got(v, d) => {
-            if v < 1 {
-                return unknown(c);
-            }
-            if 17 < v {
-                return unknown(c);
-            }
-            Number {
-                passed: Passed::Got(d),
-                value: v,
-            }
-        }
-    }
-}
-
-fn unknown(c: Cursor) -> Number
-    ensures { λ r. ⌜ r .passed ≡ Passed.Stop (refused 6 c) ⌝ }
-{
-    Number {
-        passed: Passed::Stop(c.refusal(6)),
-        value: 0,
-    }
-}
 
 // Format 1: the packet's first bytes, by the protocol of its header.
 #[repr(C)]
@@ -78,11 +28,11 @@ impl SampledHeader {
         requires { ⌜ Within (now s) p ⌝ }
         ensures { λ r. ⌜ Answers (layout-of 2 1) (now (s .entry)) p (r .outcome) (sampled-header r) ⌝ }
     {
-        let kind = protocol(p, s);
+        let kind = field::protocol(p, s);
         let passed = kind.passed;
-        let row = next::words(passed, s, 2);
+        let row = field::words(passed, s, 2);
         let passed = row.passed;
-        let bytes = next::opaque(passed, s);
+        let bytes = field::opaque(passed, s);
         let passed = bytes.passed;
         let header = bytes.span;
         match passed {
@@ -94,7 +44,7 @@ impl SampledHeader {
                 header: Span { start: 0, count: 0 },
             },
             Passed::Got(d) => {
-                let sizes = next::load_words(s, row.at, 2);
+                let sizes = field::load_words(s, row.at, 2);
                 SampledHeader {
                     outcome: d.accepted(),
                     protocol: kind.value,
@@ -122,15 +72,15 @@ impl SampledEthernet {
         requires { ⌜ Within (now s) p ⌝ }
         ensures { λ r. ⌜ Answers (layout-of 2 2) (now (s .entry)) p (r .outcome) (sampled-ethernet r) ⌝ }
     {
-        let size = next::word(p, s);
+        let size = field::word(p, s);
         let passed = size.passed;
-        let src = next::six(passed, s, false);
+        let src = field::six(passed, s, false);
         let passed = src.passed;
         let src_mac = src.bytes;
-        let dst = next::six(passed, s, false);
+        let dst = field::six(passed, s, false);
         let passed = dst.passed;
         let dst_mac = dst.bytes;
-        let kind = next::word(passed, s);
+        let kind = field::word(passed, s);
         let passed = kind.passed;
         match passed {
             Passed::Stop(r) => SampledEthernet {
@@ -170,7 +120,7 @@ impl SampledIpv4 {
         requires { ⌜ Within (now s) p ⌝ }
         ensures { λ r. ⌜ Answers (layout-of 2 3) (now (s .entry)) p (r .outcome) (sampled-ipv4 r) ⌝ }
     {
-        let row = next::words(p, s, 8);
+        let row = field::words(p, s, 8);
         let passed = row.passed;
         match passed {
             Passed::Stop(r) => SampledIpv4 {
@@ -185,7 +135,7 @@ impl SampledIpv4 {
                 tos: 0,
             },
             Passed::Got(d) => {
-                let words = next::load_words(s, row.at, 8);
+                let words = field::load_words(s, row.at, 8);
                 SampledIpv4 {
                     outcome: d.accepted(),
                     length: words[0],
@@ -237,22 +187,22 @@ impl SampledIpv6 {
         requires { ⌜ Within (now s) p ⌝ }
         ensures { λ r. ⌜ Answers (layout-of 2 4) (now (s .entry)) p (r .outcome) (sampled-ipv6 r) ⌝ }
     {
-        let row = next::words(p, s, 2);
+        let row = field::words(p, s, 2);
         let passed = row.passed;
         let head_at = row.at;
-        let src = next::sixteen(passed, s);
+        let src = field::sixteen(passed, s);
         let passed = src.passed;
         let src_ip = src.bytes;
-        let dst = next::sixteen(passed, s);
+        let dst = field::sixteen(passed, s);
         let passed = dst.passed;
         let dst_ip = dst.bytes;
-        let row = next::words(passed, s, 4);
+        let row = field::words(passed, s, 4);
         let passed = row.passed;
         match passed {
             Passed::Stop(r) => SampledIpv6::none(r),
             Passed::Got(d) => {
-                let head = next::load_words(s, head_at, 2);
-                let tail = next::load_words(s, row.at, 4);
+                let head = field::load_words(s, head_at, 2);
+                let tail = field::load_words(s, row.at, 4);
                 SampledIpv6 {
                     outcome: d.accepted(),
                     length: head[0],

@@ -7,9 +7,9 @@ ghost use Rattle.reading.specs.Layout.{mac, plain, str, words};
 ghost use Rattle.reading.specs.Values.{zeros};
 ghost use Rattle.reading.specs.Answer.{layout-of};
 ghost use Rattle.xdr.specs.Shown.{Answers};
-ghost use Rattle.flows.specs.Chain.{Within, Then};
+ghost use Rattle.layout.specs.Chain.{Within, Then};
 ghost use Rattle.flows.specs.Shown.{extended-80211-payload, network, extended-80211-rx, extended-80211-tx, extended-80211-aggregation};
-use crate::next;
+use layout::field;
 use xdr::Outcome;
 use xdr::Passed;
 use xdr::Span;
@@ -27,9 +27,9 @@ impl Extended80211Payload {
         requires { ⌜ Within (now s) p ⌝ }
         ensures { λ r. ⌜ Answers (layout-of 2 1013) (now (s .entry)) p (r .outcome) (extended-80211-payload r) ⌝ }
     {
-        let suite = next::word(p, s);
+        let suite = field::word(p, s);
         let passed = suite.passed;
-        let bytes = next::opaque(passed, s);
+        let bytes = field::opaque(passed, s);
         let passed = bytes.passed;
         let data = bytes.span;
         match passed {
@@ -61,13 +61,13 @@ impl Network {
         requires { ⌜ n ≤ 11 ⌝ }
         ensures { λ r. ⌜ Then (str ∷ mac ∷ words n) (now (s .entry)) p (r .passed) (network n r) ⌝ }
     {
-        let name = next::text(p, s);
+        let name = field::text(p, s);
         let passed = name.passed;
         let ssid = name.span;
-        let station = next::six(passed, s, true);
+        let station = field::six(passed, s, true);
         let passed = station.passed;
         let bssid = station.bytes;
-        let row = next::words(passed, s, n);
+        let row = field::words(passed, s, n);
         let passed = row.passed;
         match passed {
             Passed::Stop(r) => Network {
@@ -80,7 +80,7 @@ impl Network {
                 passed: Passed::Got(d),
                 ssid: ssid,
                 bssid: bssid,
-                words: next::load_words(s, row.at, n as usize),
+                words: field::load_words(s, row.at, n as usize),
             },
         }
     }
@@ -126,14 +126,14 @@ impl Extended80211Rx {
         let ssid = network.ssid;
         let bssid = network.bssid;
         let words = network.words;
-        let rate = next::long(passed, s);
+        let rate = field::long(passed, s);
         let passed = rate.passed;
-        let row = next::words(passed, s, 3);
+        let row = field::words(passed, s, 3);
         let passed = row.passed;
         match passed {
             Passed::Stop(r) => Extended80211Rx::none(r),
             Passed::Got(d) => {
-                let tail = next::load_words(s, row.at, 3);
+                let tail = field::load_words(s, row.at, 3);
                 Extended80211Rx {
                     outcome: d.accepted(),
                     ssid: ssid,
@@ -192,9 +192,9 @@ impl Extended80211Tx {
         let ssid = network.ssid;
         let bssid = network.bssid;
         let words = network.words;
-        let rate = next::long(passed, s);
+        let rate = field::long(passed, s);
         let passed = rate.passed;
-        let level = next::word(passed, s);
+        let level = field::word(passed, s);
         let passed = level.passed;
         match passed {
             Passed::Stop(r) => Extended80211Tx::none(r),
@@ -226,7 +226,7 @@ impl Extended80211Aggregation {
         requires { ⌜ Within (now s) p ⌝ }
         ensures { λ r. ⌜ Answers (layout-of 2 1016) (now (s .entry)) p (r .outcome) (extended-80211-aggregation r) ⌝ }
     {
-        let count = next::word(p, s);
+        let count = field::word(p, s);
         let passed = count.passed;
         match passed {
             Passed::Stop(r) => Extended80211Aggregation {

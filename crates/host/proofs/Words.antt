@@ -7,7 +7,7 @@ use lib.ListN.{getD}
 use Rattle.reading.specs.Script as script
 use Rattle.reading.specs.Script.{Range}
 use Rattle.reading.specs.Answer.{row-of, Fields, read, payload-span, whole-span}
-use Rattle.flows.specs.declared.put.Descriptor.{Descriptor}
+use Rattle.store.specs.declared.Descriptor.{Descriptor}
 use Rattle.fields.specs.Shown.{read-of}
 use Rattle.host.specs.Shown.{Has-words, read-at}
 

@@ -4,7 +4,7 @@ use mathlib.Core.Path.{_≡_}
 use mathlib.Core.List.{List}
 use lib.ListN.{getD}
 use Rattle.reading.specs.Answer.{Fields, read}
-use Rattle.flows.specs.declared.put.Descriptor.{Descriptor}
+use Rattle.store.specs.declared.Descriptor.{Descriptor}
 
 -- a descriptor has these words
 pub record Has-words (w : List ℕ) (d : Descriptor) : Type 0 where

@@ -1,8 +1,8 @@
 // A descriptor as a C host hands it over: a pointer to its words in the store.
 ghost use Rattle.host.specs.Shown.{Has-words};
-use flows::put::DESCRIPTOR_WORDS;
-use flows::put::Descriptor;
 use numbers::DataFormat;
+use store::DESCRIPTOR_WORDS;
+use store::Descriptor;
 
 pub type Words = [u32; DESCRIPTOR_WORDS];
 

@@ -3,13 +3,13 @@ ghost use mathlib.Core.Path.{_≡_};
 ghost use lib.ListN.{getD};
 ghost use Rattle.reading.specs.Answer.{payload-span, whole-span, list-word, segment-at};
 ghost use Rattle.xdr.specs.Shown.{span, answer-of};
-ghost use Rattle.flows.specs.Shown.{a-segment};
+ghost use Rattle.layout.specs.Shown.{a-segment};
 ghost use Rattle.fields.specs.Shown.{listed};
 use crate::descriptor::Words;
 use crate::descriptor::descriptor;
 use fields::parts;
 use fields::parts::Listed;
-use flows::lists::Segment;
+use layout::lists::Segment;
 use xdr::Span;
 
 #[no_mangle]

@@ -4,7 +4,7 @@ ghost use mathlib.Core.Path.{_≡_};
 ghost use lib.ListN.{length};
 ghost use Rattle.reading.specs.Answer.{row-words};
 use datagram::decode::Answer;
-use flows::put::DESCRIPTOR_WORDS;
+use store::DESCRIPTOR_WORDS;
 
 fn word(name: &[u8], w: u32) {
     out::number(name, w as u64);

@@ -1,7 +1,7 @@
 // Standard input as a run of datagrams, up to 65,536 bytes: the answer, and the descriptors.
 use datagram::run::decode_run;
-use flows::put::DESCRIPTOR_WORDS;
 use libc::STDIN_FILENO;
+use store::DESCRIPTOR_WORDS;
 
 // The longest input, and the words of a store that has room for any of that length: a descriptor owns four bytes.
 const MOST: usize = 65536;

@@ -6,9 +6,9 @@ ghost use Rattle.reading.specs.Answer.{row-words};
 use crate::heads;
 use crate::records;
 use datagram::decode::Answer;
-use flows::put::DESCRIPTOR_WORDS;
-use flows::put::Descriptor;
 use numbers::DataFormat;
+use store::DESCRIPTOR_WORDS;
+use store::Descriptor;
 
 fn wireless(s: &[u8], d: Descriptor, format: u32) {
     match format {

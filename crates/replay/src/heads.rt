@@ -2,7 +2,7 @@
 use crate::values;
 use fields::headers;
 use fields::sample;
-use flows::put::Descriptor;
+use store::Descriptor;
 
 pub fn header(s: &[u8], d: Descriptor) {
     let r = headers::header(s, d);

@@ -4,8 +4,8 @@ ghost use mathlib.Core.Path.{_≡_};
 ghost use lib.ListN.{length};
 ghost use Rattle.reading.specs.Answer.{row-words};
 use datagram::decode::Answer;
-use flows::put::DESCRIPTOR_WORDS;
 use libc::STDOUT_FILENO;
+use store::DESCRIPTOR_WORDS;
 use xdr::Address;
 
 // What every word of a lent store holds beforehand.

@@ -4,7 +4,7 @@ use fields::extended;
 use fields::mpls;
 use fields::sampled;
 use fields::wireless;
-use flows::put::Descriptor;
+use store::Descriptor;
 
 pub fn sampled_header(s: &[u8], d: Descriptor) {
     let r = sampled::sampled_header(s, d);

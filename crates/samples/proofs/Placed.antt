@@ -12,12 +12,13 @@ use Rattle.reading.specs.Layout.{words, last-number, opened, flows, pdu, flow, 
 use Rattle.reading.specs.Answer.{size, from}
 use Rattle.reading.proofs.Words.{numbers, row-got}
 use Rattle.reading.proofs.Places.{Accepted, ranges-of, Each-at, each-lies, words-lie}
-use Rattle.flows.specs.declared.put.Pen.{Pen}
+use Rattle.store.specs.declared.Pen.{Pen}
 use Rattle.flows.specs.declared.put.Flat.{Flat}
-use Rattle.flows.specs.Written.{index, Ready, Put, Framed-here, a-pen, held-by, framed-at, placed, filled, fills}
+use Rattle.store.specs.Written.{index, Ready, Put, Framed-here, a-pen, held-by, framed-at, placed, filled, fills}
 use Rattle.flows.specs.Passing.{Flat-of}
-use Rattle.flows.proofs.Placing as placing
-use Rattle.flows.proofs.Placing.{a-put, word-is, store-is}
+use Rattle.store.proofs.Placing as placing
+use Rattle.flows.proofs.Placing as records
+use Rattle.store.proofs.Placing.{a-put, word-is, store-is}
 use Rattle.samples.specs.declared.fields.Kind.{Kind}
 use Rattle.samples.specs.declared.fields.Kind.the-variants as kind
 use Rattle.samples.specs.Held.{counted-by-last, held, words-of, Is-kind}
@@ -117,7 +118,7 @@ module _ {s l : List ℕ} {at n : ℕ} {pen : Pen} {r : Flat} {l′ : List ℕ} 
       → (length l″ ≡ k) × Ready s l″ (a-pen (pen .base) (pen .parent) b) (times (r .rest - 1) (follow (flow 8 8)) s (from a))
       × (placed (a-pen (pen .base) (pen .parent) b) (times (r .rest - 1) (follow (flow 8 8)) s (from a)) l″ ≡ m)
   flat-turn z k m e = (
-    placing.put-kept (a-pen (pen .base) (pen .parent) (r .word)) _ l′ e ∙ placing.flat-length h ∙ k,
+    placing.put-kept (a-pen (pen .base) (pen .parent) (r .word)) _ l′ e ∙ records.flat-length h ∙ k,
     placing.ready-next (flow 8 8) (r .rest) s l′ (r .at) (pen .base) (pen .parent) (r .word) e (h .ready) (omega arith),
     placing.put-turn (flow 8 8) (r .rest) s l′ (r .at) (pen .base) (pen .parent) (r .word) e (h .ready) (omega arith) (h .same) ∙ m,
   )
@@ -125,18 +126,18 @@ module _ {s l : List ℕ} {at n : ℕ} {pen : Pen} {r : Flat} {l′ : List ℕ} 
 -- ---- an aggregation among them: its own descriptor was written
 module _ (s l : List ℕ) (at : ℕ) (pen : Pen) (k : be4 s at ≡ 1016) (g : Ready s l pen (follow (flow 8 8) s (from at))) {a b : ℕ} {l′ : List ℕ} (e : a-put a b l′ ≡ framed-at 2 1 s at pen l) where
   pub aggregation-kept : length l′ ≡ length l
-  aggregation-kept = placing.record-kept 8 s l at pen g 1 refl e (sym k)
+  aggregation-kept = records.record-kept 8 s l at pen g 1 refl e (sym k)
 
   pub aggregation-inner : Ready s l′ (held-by (pen .base) (pen .word)) (follow (opened (flows (pdu 1 (flow 8 7))) 1016) s (from (at + 8)))
-  aggregation-inner = placing.record-inner 8 s l at pen g 1 refl e (sym k) refl
+  aggregation-inner = records.record-inner 8 s l at pen g 1 refl e (sym k) refl
 
   pub aggregation-placed : {m : ℕ} {l″ : List ℕ} → filled m l″ ≡ fills (held-by (pen .base) (pen .word)) (follow (opened (flows (pdu 1 (flow 8 7))) 1016) s (from (at + 8))) l′
       → a-put a m l″ ≡ placed pen (follow (flow 8 8) s (from at)) l
-  aggregation-placed j = placing.record-placed 8 s l at pen g 1 refl e (sym k) refl j
+  aggregation-placed j = records.record-placed 8 s l at pen g 1 refl e (sym k) refl j
 
-pub ruleset held-records = (placing.record-here, placing.record-in, placing.record-start, aggregation-kept, aggregation-inner, aggregation-placed, needs)
+pub ruleset held-records = (records.record-here, records.record-in, records.record-start, aggregation-kept, aggregation-inner, aggregation-placed, needs)
 
-pub ruleset flat = (placing.flat-length, flat-done, flat-next, flat-less, flat-turn, placed-fills, needs)
+pub ruleset flat = (records.flat-length, flat-done, flat-next, flat-less, flat-turn, placed-fills, needs)
 
 -- ---- a sample: its own descriptor was written, and what it holds has it for its parent
 module _ (s l : List ℕ) (at : ℕ) (pen : Pen) (g : Ready s l pen (follow (sample 8) s (from at))) {a b : ℕ} {l′ : List ℕ} (e : a-put a b l′ ≡ framed-at 1 0 s at pen l) {f me : ℕ} (u : f ≡ be4 s at) (v : me ≡ index pen) where

@@ -23,16 +23,16 @@ use Rattle.xdr.specs.declared.Passed.{Passed}
 use Rattle.xdr.specs.declared.Passed.the-variants as passed
 use Rattle.xdr.specs.Shown.{place, Inside, refusal}
 use Rattle.xdr.proofs.Rows.{row-forward}
-use Rattle.flows.specs.declared.frames.Frame.{Frame}
-use Rattle.flows.specs.declared.frames.Frame.the-variants as frame
-use Rattle.flows.specs.declared.frames.Scanned.{Scanned}
-use Rattle.flows.specs.declared.frames.Scanned.the-variants as scanned
+use Rattle.layout.specs.declared.frames.Frame.{Frame}
+use Rattle.layout.specs.declared.frames.Frame.the-variants as frame
+use Rattle.layout.specs.declared.frames.Scanned.{Scanned}
+use Rattle.layout.specs.declared.frames.Scanned.the-variants as scanned
 use Rattle.flows.specs.declared.ahead.Ahead.{Ahead}
-use Rattle.flows.specs.Scanned.{Scan, frame-out, scanned-out}
+use Rattle.layout.specs.Scanned.{Scan, frame-out, scanned-out}
 use Rattle.flows.specs.Passing.{Ahead-of}
-use Rattle.flows.specs.Chain.{Then, goes, halts, Ends, ends, There}
-use Rattle.flows.proofs.Chain.{both, within-start, within-ends}
-use Rattle.flows.proofs.Scan.{scan-inside, scan-short, Thrift, scan-on, scan-done, scan-turn, scan-stop, frame-ends, frame-fits, frame-part, frame-counts, frame-scan}
+use Rattle.layout.specs.Chain.{Then, goes, halts, Ends, ends, There}
+use Rattle.layout.proofs.Chain.{both, within-start, within-ends}
+use Rattle.layout.proofs.Scan.{scan-inside, scan-short, Thrift, scan-on, scan-done, scan-turn, scan-stop, frame-ends, frame-fits, frame-part, frame-counts, frame-scan}
 use Rattle.samples.specs.declared.fields.Kind.{Kind}
 use Rattle.samples.specs.declared.fields.Kind.the-variants as kind
 use Rattle.samples.specs.Held.{counted-by-last, held, words-of, Is-kind, Counted, on, over, Has-last, rest-of}

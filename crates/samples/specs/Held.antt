@@ -12,8 +12,8 @@ use Rattle.xdr.specs.declared.Outcome.{Outcome}
 use Rattle.xdr.specs.declared.Passed.{Passed}
 use Rattle.xdr.specs.declared.Passed.the-variants as passed
 use Rattle.xdr.specs.Shown.{place, refusal}
-use Rattle.flows.specs.Chain.{Sure}
-use Rattle.flows.specs.Scanned.{Scan}
+use Rattle.layout.specs.Chain.{Sure}
+use Rattle.layout.specs.Scanned.{Scan}
 use Rattle.samples.specs.declared.fields.Kind.{Kind}
 use Rattle.samples.specs.declared.fields.Kind.the-variants as kind
 

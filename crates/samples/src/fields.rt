@@ -5,10 +5,10 @@ ghost use Rattle.reading.specs.Layout.{words};
 ghost use Rattle.reading.specs.Values.{zeros};
 ghost use Rattle.reading.specs.Answer.{layout-of};
 ghost use Rattle.xdr.specs.Shown.{Answers};
-ghost use Rattle.flows.specs.Chain.{Within};
+ghost use Rattle.layout.specs.Chain.{Within};
 ghost use Rattle.samples.specs.Held.{Is-kind};
 ghost use Rattle.samples.specs.Shown.{flow-sample, counters-sample, flow-sample-expanded, counters-sample-expanded, discarded-packet};
-use flows::next;
+use layout::field;
 use numbers::DataSource;
 use numbers::Interface;
 use xdr::Outcome;
@@ -75,7 +75,7 @@ impl FlowSample {
         requires { ⌜ Within (now s) p ⌝ }
         ensures { λ r. ⌜ Answers (layout-of 1 1) (now (s .entry)) p (r .outcome) (flow-sample r) ⌝ }
     {
-        let row = next::words(p, s, 8);
+        let row = field::words(p, s, 8);
         let passed = row.passed;
         match passed {
             Passed::Stop(r) => FlowSample {
@@ -90,7 +90,7 @@ impl FlowSample {
                 num_records: 0,
             },
             Passed::Got(d) => {
-                let words = next::load_words(s, row.at, 8);
+                let words = field::load_words(s, row.at, 8);
                 FlowSample {
                     outcome: d.accepted(),
                     sequence_number: words[0],
@@ -121,7 +121,7 @@ impl CountersSample {
         requires { ⌜ Within (now s) p ⌝ }
         ensures { λ r. ⌜ Answers (layout-of 1 2) (now (s .entry)) p (r .outcome) (counters-sample r) ⌝ }
     {
-        let row = next::words(p, s, 3);
+        let row = field::words(p, s, 3);
         let passed = row.passed;
         match passed {
             Passed::Stop(r) => CountersSample {
@@ -131,7 +131,7 @@ impl CountersSample {
                 num_records: 0,
             },
             Passed::Got(d) => {
-                let words = next::load_words(s, row.at, 3);
+                let words = field::load_words(s, row.at, 3);
                 CountersSample {
                     outcome: d.accepted(),
                     sequence_number: words[0],
@@ -187,12 +187,12 @@ impl FlowSampleExpanded {
         requires { ⌜ Within (now s) p ⌝ }
         ensures { λ r. ⌜ Answers (layout-of 1 3) (now (s .entry)) p (r .outcome) (flow-sample-expanded r) ⌝ }
     {
-        let row = next::words(p, s, 11);
+        let row = field::words(p, s, 11);
         let passed = row.passed;
         match passed {
             Passed::Stop(r) => FlowSampleExpanded::none(r),
             Passed::Got(d) => {
-                let words = next::load_words(s, row.at, 11);
+                let words = field::load_words(s, row.at, 11);
                 FlowSampleExpanded {
                     outcome: d.accepted(),
                     sequence_number: words[0],
@@ -232,7 +232,7 @@ impl CountersSampleExpanded {
         requires { ⌜ Within (now s) p ⌝ }
         ensures { λ r. ⌜ Answers (layout-of 1 4) (now (s .entry)) p (r .outcome) (counters-sample-expanded r) ⌝ }
     {
-        let row = next::words(p, s, 4);
+        let row = field::words(p, s, 4);
         let passed = row.passed;
         match passed {
             Passed::Stop(r) => CountersSampleExpanded {
@@ -245,7 +245,7 @@ impl CountersSampleExpanded {
                 num_records: 0,
             },
             Passed::Got(d) => {
-                let words = next::load_words(s, row.at, 4);
+                let words = field::load_words(s, row.at, 4);
                 CountersSampleExpanded {
                     outcome: d.accepted(),
                     sequence_number: words[0],
@@ -278,7 +278,7 @@ impl DiscardedPacket {
         requires { ⌜ Within (now s) p ⌝ }
         ensures { λ r. ⌜ Answers (layout-of 1 5) (now (s .entry)) p (r .outcome) (discarded-packet r) ⌝ }
     {
-        let row = next::words(p, s, 8);
+        let row = field::words(p, s, 8);
         let passed = row.passed;
         match passed {
             Passed::Stop(r) => DiscardedPacket {
@@ -295,7 +295,7 @@ impl DiscardedPacket {
                 num_records: 0,
             },
             Passed::Got(d) => {
-                let words = next::load_words(s, row.at, 8);
+                let words = field::load_words(s, row.at, 8);
                 DiscardedPacket {
                     outcome: d.accepted(),
                     sequence_number: words[0],

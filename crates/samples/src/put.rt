@@ -6,15 +6,15 @@ ghost use Rattle.reading.specs.Bytes.{be4};
 ghost use Rattle.reading.specs.Cursor.{times, follow};
 ghost use Rattle.reading.specs.Layout.{opened, flow, counter, samples, sample};
 ghost use Rattle.reading.specs.Answer.{from};
-ghost use Rattle.flows.specs.Written.{Ready, written, placed, filled, fills};
+ghost use Rattle.store.specs.Written.{Ready, written, placed, filled, fills};
 use crate::fields::Kind;
 use crate::fields::kind_of;
-use flows::put::Pen;
-use flows::put::Written;
-use flows::put::index_at;
 use flows::put::put_flat_records;
-use flows::put::put_frame;
 use flows::put::put_pdus;
+use store::Pen;
+use store::Written;
+use store::index_at;
+use store::put_frame;
 use xdr::load;
 
 // n counter records in a row.

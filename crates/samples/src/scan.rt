@@ -6,17 +6,17 @@ ghost use Rattle.reading.specs.Cursor.{times, follow};
 ghost use Rattle.reading.specs.Layout.{words, opened, flow, counter, samples, sample};
 ghost use Rattle.reading.proofs.Counts.{counted};
 ghost use Rattle.xdr.specs.Shown.{place, Inside};
-ghost use Rattle.flows.specs.Scanned.{Scan, scanned-out};
-ghost use Rattle.flows.specs.Chain.{Ends};
+ghost use Rattle.layout.specs.Scanned.{Scan, scanned-out};
+ghost use Rattle.layout.specs.Chain.{Ends};
 ghost use Rattle.samples.specs.Held.{Counted, Has-last, rest-of};
 use crate::fields::Kind;
 use crate::fields::kind_of;
 use flows::ahead;
-use flows::frames::Frame;
-use flows::frames::Scanned;
-use flows::next;
-use flows::next::Run;
 use flows::records;
+use layout::field;
+use layout::field::WordsAt;
+use layout::frames::Frame;
+use layout::frames::Scanned;
 use xdr::Cursor;
 use xdr::Passed;
 use xdr::load;
@@ -56,7 +56,7 @@ fn counter_records(s: &[u8], c: Cursor, n: u32, count: usize) -> Scanned
 }
 
 // The flow records behind a sample's row, where that was read; its word at `last` counts them.
-fn flows_behind(s: &[u8], row: Run, last: usize, count: usize) -> Scanned
+fn flows_behind(s: &[u8], row: WordsAt, last: usize, count: usize) -> Scanned
     requires { ⌜ Counted (now s) (row .passed) count ⌝ }
     requires { ⌜ Has-last (now s) (row .passed) (row .at) last ⌝ }
     ensures { λ r. ⌜ scanned-out r ≡ rest-of (flow 8 8) (now (s .entry)) (row .passed) (be4 (now (s .entry)) (row .at + last)) count ⌝ }
@@ -78,7 +78,7 @@ fn flows_behind(s: &[u8], row: Run, last: usize, count: usize) -> Scanned
 }
 
 // The same of counter records.
-fn counters_behind(s: &[u8], row: Run, last: usize, count: usize) -> Scanned
+fn counters_behind(s: &[u8], row: WordsAt, last: usize, count: usize) -> Scanned
     requires { ⌜ Counted (now s) (row .passed) count ⌝ }
     requires { ⌜ Has-last (now s) (row .passed) (row .at) last ⌝ }
     ensures { λ r. ⌜ scanned-out r ≡ rest-of counter (now (s .entry)) (row .passed) (be4 (now (s .entry)) (row .at + last)) count ⌝ }
@@ -103,7 +103,7 @@ fn before_eight(c: Cursor, s: &[u8], n: u32) -> Passed
     if n == 8 {
         return Passed::Got(c);
     }
-    let row = next::words(Passed::Got(c), s, n - 8);
+    let row = field::words(Passed::Got(c), s, n - 8);
     row.passed
 }
 
@@ -114,11 +114,11 @@ fn sample_data(s: &[u8], c: Cursor, format: u32, count: usize) -> Scanned
 {
     match kind_of(format) {
         Kind::Flows(n) => {
-            let row = next::words(before_eight(c, s, n), s, 8);
+            let row = field::words(before_eight(c, s, n), s, 8);
             flows_behind(s, row, 28, count)
         }
         Kind::Counters(n) => {
-            let row = next::words(Passed::Got(c), s, n);
+            let row = field::words(Passed::Got(c), s, n);
             counters_behind(s, row, 4 * (n as usize) - 4, count)
         }
         Kind::Raw => Scanned::Got(c, count),

@@ -1,4 +1,4 @@
-use Rattle.flows.proofs.Chain.{within-then, within-ends}
+use Rattle.layout.proofs.Chain.{within-then, within-ends}
 use borrow.Author.Needs.{needs}
 use Rattle.datagram.proofs.Judging.{heads}
 use Rattle.datagram.proofs.header.row.Statement.{statement}

@@ -1,4 +1,4 @@
-use Rattle.flows.proofs.Chain.{items}
+use Rattle.layout.proofs.Chain.{items}
 use Rattle.datagram.proofs.header.version.Statement.{statement}
 use Rattle.datagram.proofs.header.version.Tie as tie
 

@@ -1,4 +1,4 @@
-use Rattle.flows.proofs.Chain.{items}
+use Rattle.layout.proofs.Chain.{items}
 use Rattle.datagram.proofs.Version.{no-version, version-five, version-other}
 use Rattle.datagram.proofs.header.version_at.Statement.{statement}
 use Rattle.datagram.proofs.header.version_at.Tie as tie

@@ -5,7 +5,7 @@ use Rattle.reading.specs.Answer.{from}
 use Rattle.reading.proofs.Counts.{counted}
 use Rattle.reading.proofs.Runs.{run-from}
 use Rattle.xdr.specs.Shown.{place}
-use Rattle.flows.specs.Scanned.{Scan}
+use Rattle.layout.specs.Scanned.{Scan}
 use Rattle.datagram.proofs.Deciding.{at-start}
 use Rattle.datagram.proofs.Running.{running}
 use Rattle.datagram.proofs.run.judge_run.Statement.{statement}

@@ -4,7 +4,7 @@ use lib.ListN.{length}
 use Rattle.reading.specs.Answer.{from}
 use Rattle.reading.proofs.Places.{end-of}
 use Rattle.reading.proofs.Runs.{run-from}
-use Rattle.flows.specs.Written.{Ready, placed}
+use Rattle.store.specs.Written.{Ready, placed}
 use Rattle.datagram.specs.Shown.{pen-at}
 use Rattle.datagram.proofs.Running.{running}
 use Rattle.datagram.proofs.run.put_run.Statement.{statement}

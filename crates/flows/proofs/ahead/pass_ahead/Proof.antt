@@ -1,6 +1,6 @@
 use Rattle.reading.specs.Layout.{flow}
 use Rattle.flows.proofs.Early.{passing}
-use Rattle.flows.proofs.Loops.{Counts}
+use Rattle.layout.proofs.Loops.{Counts}
 use Rattle.flows.proofs.ahead.pass_ahead.Statement.{statement}
 use Rattle.flows.proofs.ahead.pass_ahead.Tie as tie
 

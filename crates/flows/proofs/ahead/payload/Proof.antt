@@ -1,6 +1,6 @@
 use Rattle.reading.specs.Layout.{opened, flows}
 use Rattle.reading.specs.Answer.{layout-of}
-use Rattle.flows.proofs.Chain.{passing}
+use Rattle.layout.proofs.Chain.{passing}
 use Rattle.flows.proofs.Early.{passes-arm, passes-as, passes-none}
 use Rattle.flows.proofs.ahead.payload.Statement.{statement}
 use Rattle.flows.proofs.ahead.payload.Tie as tie

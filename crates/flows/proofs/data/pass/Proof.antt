@@ -1,6 +1,6 @@
 use Rattle.reading.specs.Layout.{opened, flows}
 use Rattle.reading.specs.Answer.{layout-of}
-use Rattle.flows.proofs.Chain.{passing}
+use Rattle.layout.proofs.Chain.{passing}
 use Rattle.flows.proofs.Formats.{arm, raw}
 use Rattle.flows.proofs.data.pass.Statement.{statement}
 use Rattle.flows.proofs.data.pass.Tie as tie

@@ -1,10 +1,11 @@
 -- The cycle of the second pass: the remaining depth falls at each turn. Assumes nothing.
 use borrow.Author.Needs.{needs}
 use Rattle.reading.specs.Layout.{flow, pdu}
-use Rattle.flows.proofs.Placing as placing
+use Rattle.store.proofs.Placing as placing
+use Rattle.flows.proofs.Placing as records
 use Prim.Native.Nat.{ℕ, _+_, _*_, _-_}
 use borrow.Fn.PlainCycle.{Measures, falls}
-use Rattle.flows.proofs.Loops.{Places}
+use Rattle.store.proofs.Loops.{Places}
 use Rattle.flows.proofs.Cycles.{called-at, called-below}
 use Rattle.flows.proofs.put.put_flow_record.Reads as put-flow-record
 use Rattle.flows.proofs.put.put_flow_record.Kinds as put-flow-record-kinds
@@ -15,9 +16,9 @@ use Rattle.flows.proofs.put.+put_flow_record+put_flow_records+put_pdus.
 use Rattle.flows.proofs.put.put_pdus.Reads as put-pdus
 use Rattle.flows.proofs.put.put_pdus.Kinds as put-pdus-kinds
 use Rattle.flows.proofs.put.+put_flow_record+put_flow_records+put_pdus.Lts-put_pdus as put-pdus-lts
-use Rattle.flows.proofs.put.index_at.Reads as index-at-reads
-use Rattle.flows.proofs.put.put.Reads as put-reads
-use Rattle.flows.proofs.put.put_frame.Reads as put-frame-reads
+use Rattle.store.proofs.index_at.Reads as index-at-reads
+use Rattle.store.proofs.put.Reads as put-reads
+use Rattle.store.proofs.put_frame.Reads as put-frame-reads
 use Rattle.xdr.proofs.load.be32.Reads as be32-reads
 use Rattle.flows.proofs.put.+put_flow_record+put_flow_records+put_pdus.{statement}
 use Rattle.flows.proofs.put.+put_flow_record+put_flow_records+put_pdus.Tie.{close}
@@ -50,32 +51,32 @@ ruleset putting = (
   placing.ready-next,
   placing.put-turn,
   placing.pen-index,
-  placing.pdu-word,
-  placing.pdu-start,
-  placing.pdu-start32,
-  placing.pdu-first32,
-  placing.pdu-more,
-  placing.pdu-inner,
-  placing.pdu-forward,
-  placing.pdu-length32,
-  placing.pdu-own,
-  placing.data-word,
-  placing.data-start,
-  placing.data-inner,
-  placing.data-filled,
-  placing.data-index,
-  placing.data-behind,
-  placing.one-less,
-  placing.record-falls,
-  placing.record-some,
-  placing.record-here,
-  placing.record-word,
-  placing.record-in,
-  placing.record-start,
-  placing.record-kept,
-  placing.record-flat,
-  placing.record-inner,
-  placing.record-placed,
+  records.pdu-word,
+  records.pdu-start,
+  records.pdu-start32,
+  records.pdu-first32,
+  records.pdu-more,
+  records.pdu-inner,
+  records.pdu-forward,
+  records.pdu-length32,
+  records.pdu-own,
+  records.data-word,
+  records.data-start,
+  records.data-inner,
+  records.data-filled,
+  records.data-index,
+  records.data-behind,
+  records.one-less,
+  records.record-falls,
+  records.record-some,
+  records.record-here,
+  records.record-word,
+  records.record-in,
+  records.record-start,
+  records.record-kept,
+  records.record-flat,
+  records.record-inner,
+  records.record-placed,
   needs,
 )
 
@@ -152,7 +153,7 @@ pub +put-flow-record+put-flow-records+put-pdus-spec : {M : Type 1} → statement
     let i = p .before in
     let n = i .before .before in
     let w = n .before in
-    placing.pdu-own _ _ _ _ _ _ _ _ (w .before .loop .inv .1) (w .loop-test .taken) (n .be322 .ensures) (i .index-at2 .ensures) (p .put-flow-records .ensures))  -- put-pdus-put-requires
+    records.pdu-own _ _ _ _ _ _ _ _ (w .before .loop .inv .1) (w .loop-test .taken) (n .be322 .ensures) (i .index-at2 .ensures) (p .put-flow-records .ensures))  -- put-pdus-put-requires
     (λ c. search putting)  -- put-pdus-sub-rest
     (λ c. search putting)  -- put-pdus-loop-less
     (λ c.
@@ -161,6 +162,6 @@ pub +put-flow-record+put-flow-records+put-pdus-spec : {M : Type 1} → statement
     let i = p .before in
     let n = i .before .before in
     let w = n .before in
-    placing.pdu-turn _ _ _ _ _ _ _ _ (w .before .loop .inv .1) (w .loop-test .taken) (n .be322 .ensures) (i .index-at2 .ensures) (p .put-flow-records .ensures) (q .put .ensures) (w .before .loop .inv .0) (w .before .loop .inv .2))  -- put-pdus-loop-again
+    records.pdu-turn _ _ _ _ _ _ _ _ (w .before .loop .inv .1) (w .loop-test .taken) (n .be322 .ensures) (i .index-at2 .ensures) (p .put-flow-records .ensures) (q .put .ensures) (w .before .loop .inv .0) (w .before .loop .inv .2))  -- put-pdus-loop-again
     (λ c. search putting)  -- put-pdus-same-length
-    (λ c. placing.data-filled _ _ _ _ _ _ (search putting) (search putting) (search putting) (search putting) (placing.put-done _ _ _ _ _ _ _ _ (c .before .loop .inv .2) (c .loop-test .left)))  -- put-pdus-returns
+    (λ c. records.data-filled _ _ _ _ _ _ (search putting) (search putting) (search putting) (search putting) (placing.put-done _ _ _ _ _ _ _ _ (c .before .loop .inv .2) (c .loop-test .left)))  -- put-pdus-returns

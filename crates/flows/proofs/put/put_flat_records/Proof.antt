@@ -2,7 +2,7 @@ use Prim.Native.Nat.{_-_, _≤_}
 use mathlib.Core.Path.{_≡_}
 use Rattle.reading.specs.Layout.{flow}
 use Rattle.flows.proofs.Placing.{flat}
-use Rattle.flows.proofs.Loops.{Places}
+use Rattle.store.proofs.Loops.{Places}
 use Rattle.flows.proofs.put.put_flat_records.Statement.{statement}
 use Rattle.flows.proofs.put.put_flat_records.Tie as tie
 

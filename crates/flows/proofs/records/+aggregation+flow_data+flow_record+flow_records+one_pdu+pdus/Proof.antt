@@ -3,10 +3,11 @@ use Prim.Native.Nat.{ℕ, _+_, _*_, _-_}
 use borrow.Author.Needs.{needs}
 use Rattle.reading.specs.Layout.{flows, flow, pdu}
 use Rattle.reading.specs.Answer.{layout-of}
-use Rattle.flows.proofs.Chain.{within-start}
+use Rattle.layout.proofs.Chain.{within-start}
+use Rattle.layout.proofs.Scan as frames
 use Rattle.flows.proofs.Scan as scan
 use borrow.Fn.PlainCycle.{Measures, falls, and}
-use Rattle.flows.proofs.Loops.{Counts}
+use Rattle.layout.proofs.Loops.{Counts}
 use Rattle.flows.proofs.Cycles.{called-at, called-below}
 use Rattle.flows.proofs.records.aggregation.Reads as aggregation
 use Rattle.flows.proofs.records.aggregation.Kinds as aggregation-kinds
@@ -27,7 +28,7 @@ use Rattle.flows.proofs.records.pdus.Reads as pdus
 use Rattle.flows.proofs.records.pdus.Kinds as pdus-kinds
 use Rattle.flows.proofs.records.+aggregation+flow_data+flow_record+flow_records+one_pdu+pdus.Lts-pdus as pdus-lts
 use Rattle.flows.proofs.data.pass.Reads as pass-reads
-use Rattle.flows.proofs.frames.Frame.parse.Reads as frames-Frame-parse-reads
+use Rattle.layout.proofs.frames.Frame.parse.Reads as frames-Frame-parse-reads
 use Rattle.flows.proofs.wireless.Extended80211Aggregation.parse.Reads as wireless-Extended80211Aggregation-parse-reads
 use Rattle.xdr.proofs.Cursor.read_u32.Reads as read-u32-reads
 use Rattle.xdr.proofs.Cursor.refusal.Reads as refusal-reads
@@ -70,23 +71,23 @@ abbrev pdus-μ-loop : pdus-lts.MeasureT-loop
 pdus-μ-loop s n left count cur₀ found₀ rest₀ cur found rest = rest
 
 ruleset scanning = (
-  scan.scan-inside,
-  scan.scan-short,
+  frames.scan-inside,
+  frames.scan-short,
   scan.flow-thrift,
   scan.pdu-thrift,
-  scan.scan-on,
-  scan.scan-done,
-  scan.scan-turn,
-  scan.scan-stop,
+  frames.scan-on,
+  frames.scan-done,
+  frames.scan-turn,
+  frames.scan-stop,
   scan.pdu-short,
   scan.pdu-full,
-  scan.word-scan,
-  scan.word-counts,
-  scan.frame-ends,
-  scan.frame-fits,
-  scan.frame-part,
-  scan.frame-counts,
-  scan.frame-scan,
+  frames.word-scan,
+  frames.word-counts,
+  frames.frame-ends,
+  frames.frame-fits,
+  frames.frame-part,
+  frames.frame-counts,
+  frames.frame-scan,
   scan.record-deep,
   scan.record-cut,
   scan.record-stop,

@@ -1,5 +1,5 @@
 use Rattle.reading.specs.Layout.{opened, samples}
-use Rattle.flows.proofs.Placing as frames
+use Rattle.store.proofs.Placing as frames
 use Rattle.samples.proofs.Placed.{writing}
 use Rattle.samples.proofs.put.put_sample.Statement.{statement}
 use Rattle.samples.proofs.put.put_sample.Tie as tie

@@ -1,8 +1,8 @@
 -- `samples::put::put_sample_flows` meets its contract. The loop's invariant: to write on is to write all. Assumes nothing.
 use Rattle.reading.specs.Layout.{flow}
-use Rattle.flows.proofs.Placing.{put-done}
+use Rattle.store.proofs.Placing.{put-done}
 use Rattle.samples.proofs.Placed.{placed-fills, flat-next, flat-turn, flat}
-use Rattle.flows.proofs.Loops.{Places}
+use Rattle.store.proofs.Loops.{Places}
 use Rattle.samples.proofs.put.put_sample_flows.Statement.{statement}
 use Rattle.samples.proofs.put.put_sample_flows.Tie as tie
 

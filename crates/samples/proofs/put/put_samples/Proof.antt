@@ -1,7 +1,7 @@
 use Rattle.reading.specs.Layout.{sample}
-use Rattle.flows.proofs.Placing.{put-done}
+use Rattle.store.proofs.Placing.{put-done}
 use Rattle.samples.proofs.Placed.{writing}
-use Rattle.flows.proofs.Loops.{Places}
+use Rattle.store.proofs.Loops.{Places}
 use Rattle.samples.proofs.put.put_samples.Statement.{statement}
 use Rattle.samples.proofs.put.put_samples.Tie as tie
 

@@ -1,4 +1,4 @@
-use Rattle.flows.proofs.Chain.{passing}
+use Rattle.layout.proofs.Chain.{passing}
 use Rattle.samples.proofs.Sampling.{none-before}
 use Rattle.samples.proofs.scan.before_eight.Statement.{statement}
 use Rattle.samples.proofs.scan.before_eight.Tie as tie

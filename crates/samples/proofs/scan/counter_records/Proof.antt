@@ -1,6 +1,6 @@
 use Rattle.reading.specs.Layout.{counter}
 use Rattle.samples.proofs.Sampling.{sampling}
-use Rattle.flows.proofs.Loops.{Counts}
+use Rattle.layout.proofs.Loops.{Counts}
 use Rattle.samples.proofs.scan.counter_records.Statement.{statement}
 use Rattle.samples.proofs.scan.counter_records.Tie as tie
 

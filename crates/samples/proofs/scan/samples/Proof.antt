@@ -1,6 +1,6 @@
 use Rattle.reading.specs.Layout.{sample}
 use Rattle.samples.proofs.Sampling.{sampling}
-use Rattle.flows.proofs.Loops.{Counts}
+use Rattle.layout.proofs.Loops.{Counts}
 use Rattle.samples.proofs.scan.samples.Statement.{statement}
 use Rattle.samples.proofs.scan.samples.Tie as tie
 

@@ -1,5 +1,5 @@
 use borrow.Author.Needs.{needs}
-use Rattle.flows.proofs.Chain.{within-then, places}
+use Rattle.layout.proofs.Chain.{within-then, places}
 use Rattle.datagram.proofs.Deciding.{inside-start, never-refused, header-known}
 use Rattle.datagram.proofs.decode.Decoded.accepted.Statement.{statement}
 use Rattle.datagram.proofs.decode.Decoded.accepted.Tie as tie

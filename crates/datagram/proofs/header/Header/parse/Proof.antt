@@ -1,5 +1,5 @@
 use Rattle.reading.specs.Answer.{layout-of}
-use Rattle.flows.proofs.Chain.{steps, places, rows}
+use Rattle.layout.proofs.Chain.{steps, places, rows}
 use Rattle.datagram.proofs.header.Header.parse.Statement.{statement}
 use Rattle.datagram.proofs.header.Header.parse.Tie as tie
 

@@ -1,4 +1,4 @@
-use Rattle.flows.proofs.Chain.{steps, rows}
+use Rattle.layout.proofs.Chain.{steps, rows}
 use Rattle.flows.proofs.extended.Route.parse.Statement.{statement}
 use Rattle.flows.proofs.extended.Route.parse.Tie as tie
 

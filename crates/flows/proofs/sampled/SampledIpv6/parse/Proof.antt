@@ -1,6 +1,6 @@
 use Rattle.reading.specs.Layout.{flows}
 use Rattle.reading.specs.Answer.{layout-of}
-use Rattle.flows.proofs.Chain.{steps, places, rows}
+use Rattle.layout.proofs.Chain.{steps, places, rows}
 use Rattle.flows.proofs.sampled.SampledIpv6.parse.Statement.{statement}
 use Rattle.flows.proofs.sampled.SampledIpv6.parse.Tie as tie
 

@@ -1,6 +1,6 @@
 use Rattle.reading.specs.Layout.{flows}
 use Rattle.reading.specs.Answer.{layout-of}
-use Rattle.flows.proofs.Chain.{steps, rows}
+use Rattle.layout.proofs.Chain.{steps, rows}
 use Rattle.flows.proofs.wireless.Extended80211Payload.parse.Statement.{statement}
 use Rattle.flows.proofs.wireless.Extended80211Payload.parse.Tie as tie
 

@@ -1,4 +1,4 @@
-use Rattle.flows.proofs.Chain.{steps, places, parts}
+use Rattle.layout.proofs.Chain.{steps, places, parts}
 use Rattle.flows.proofs.wireless.Network.parse.Statement.{statement}
 use Rattle.flows.proofs.wireless.Network.parse.Tie as tie
 

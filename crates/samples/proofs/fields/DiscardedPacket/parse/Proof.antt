@@ -1,6 +1,6 @@
 use Rattle.reading.specs.Layout.{samples}
 use Rattle.reading.specs.Answer.{layout-of}
-use Rattle.flows.proofs.Chain.{steps, places, rows}
+use Rattle.layout.proofs.Chain.{steps, places, rows}
 use Rattle.samples.proofs.fields.DiscardedPacket.parse.Statement.{statement}
 use Rattle.samples.proofs.fields.DiscardedPacket.parse.Tie as tie
 

@@ -1,0 +1,4 @@
+pub mod Chain
+pub mod Shown
+pub mod Scanned
+pub mod Examples
