@@ -7,7 +7,7 @@ ghost use Rattle.xdr.specs.Shown.{Inside};
 ghost use Rattle.layout.specs.Chain.{Within, Ends};
 use crate::field;
 use crate::field::Counted;
-use utf8;
+use strings;
 use xdr::Cursor;
 use xdr::Part;
 use xdr::Passed;
@@ -27,7 +27,7 @@ fn text_at(c: Cursor, s: &[u8]) -> Passed
         Part::Got(x, d) => {
             let start = x.start;
             let end = start + x.count;
-            let good = utf8::well_formed(&s[start..end]);
+            let good = strings::well_formed(&s[start..end]);
             if good < x.count {
                 return Passed::Stop(c.ill_formed(start + good));
             }

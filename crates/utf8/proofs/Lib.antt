@@ -1,7 +1,3 @@
 pub mod Places
 pub mod Rows
-pub mod Bytes
-pub mod Whole
-pub mod Highs
-pub mod Skips
 pub mod Contracts

@@ -2,23 +2,22 @@
 ghost use mathlib.Core.Path.{_≡_};
 ghost use Prim.Native.Nat.{_≤_};
 ghost use lib.ListN.{length, drop};
-ghost use Rattle.reading.specs.Utf8.{tail, well-formed};
+ghost use Rattle.reading.specs.Utf8.{tail};
 ghost use Rattle.reading.proofs.Utf8.{width};
 use crate::ranges::among;
 use crate::ranges::behind;
 
-mod ranges;
-mod skip;
+pub mod ranges;
 
 // UTF8-tail
-fn tail(a: u8) -> bool
+pub fn tail(a: u8) -> bool
     ensures { λ r. ⌜ r ≡ tail a ⌝ }
 {
     among(0x80, 0xbf, a)
 }
 
 // How many bytes the UTF8-char at `at` has; 0 where none begins there.
-fn utf8_char(s: &[u8], at: usize) -> usize
+pub fn utf8_char(s: &[u8], at: usize) -> usize
     requires { ⌜ at ≤ length (now s) ⌝ }
     ensures { λ r. ⌜ r ≡ width (drop at (now (s .entry))) ⌝ }
 {
@@ -53,20 +52,4 @@ fn utf8_char(s: &[u8], at: usize) -> usize
         return 4;
     }
     0
-}
-
-// UTF8-octets: how many bytes its longest well-formed beginning has; all of them, where they are UTF-8. The skips save time and decide nothing.
-pub fn well_formed(s: &[u8]) -> usize
-    ensures { λ r. ⌜ r ≡ well-formed (now (s .entry)) ⌝ }
-{
-    let mut at = skip::short(s);
-    while at < s.len() {
-        at = skip::past(s, at);
-        let n = utf8_char(s, at);
-        if n == 0 {
-            return at;
-        }
-        at += n;
-    }
-    at
 }

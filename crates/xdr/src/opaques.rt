@@ -9,7 +9,7 @@ use crate::Part;
 use crate::Span;
 use crate::Word;
 use crate::load;
-use utf8;
+use strings;
 
 impl Cursor {
     pub fn read_opaque(self, s: &[u8]) -> Part
@@ -52,7 +52,7 @@ impl Cursor {
             Part::Got(x, d) => {
                 let start = x.start;
                 let end = start + x.count;
-                let good = utf8::well_formed(&s[start..end]);
+                let good = strings::well_formed(&s[start..end]);
                 if good < x.count {
                     return Part::Stop(self.ill_formed(start + good));
                 }
