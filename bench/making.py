@@ -72,7 +72,7 @@ def measure(before=None):
     libraries = [library(), *with_crate(), "-Wl,-z,now"]
     name, options = "measure", list(RELEASE)
     if before is not None:
-        other = made("before", "libhost.a")
+        other = made("before", "liblatchplume.a")
         output(["objcopy", "--prefix-symbols=before_", before, other], f"objcopy {before}")
         name, options, libraries = "measure-against", ["-DBEFORE", *RELEASE], [other, *libraries]
     return [compiled(f"{name}-{shift}", sources, libraries, [f"-DSHIFT={shift}", *options]) for shift in SHIFTS]
@@ -92,7 +92,7 @@ def texts(options, name):
 
 def judge():
     """The oracle's judge, over an archive whose decode and decode_run are the walk's."""
-    archive, walk = made("walked", "libhost.a"), made("walked", "walk.o")
+    archive, walk = made("walked", "liblatchplume.a"), made("walked", "walk.o")
     names = ("decode", "decode_run")
     hidden = [word for name in names for word in ("--redefine-sym", f"latchplume_{name}=library_{name}")]
     output(["objcopy", *hidden, library(), archive], "objcopy")

@@ -4,7 +4,7 @@
  *
  * It uses one fixed buffer, one fixed store and one fixed table, and no heap.
  *
- *     cc -Iinclude examples/collector.c "$(tests/library host)" -o collector
+ *     cc -Iinclude examples/collector.c "$(./build --static)" -o collector
  *     ./collector PORT      0 takes a free port; the first line says which
  */
 #include "latchplume.h"

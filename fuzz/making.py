@@ -1,11 +1,8 @@
 """Builds what AFL++ runs: the library with its edges counted, the comparison of oracle/ over it, and the harness."""
-import contextlib
 import importlib.machinery
 import importlib.util
-import io
 import os
 import sys
-import tempfile
 
 HERE = os.path.dirname(os.path.abspath(__file__))
 ROOT = os.path.dirname(HERE)
@@ -18,35 +15,23 @@ COUNTED = "-fsanitize-coverage=trace-pc-guard,trace-cmp"
 
 
 def script(*path):
-    """A script of this repository as a module. Where it does its work when it is loaded, as tests/library does, that is for `host`."""
-    name = os.path.join(ROOT, *path)
-    loader = importlib.machinery.SourceFileLoader("_".join(path), name)
+    """A script of this repository as a module."""
+    loader = importlib.machinery.SourceFileLoader("_".join(path), os.path.join(ROOT, *path))
     module = importlib.util.module_from_spec(importlib.util.spec_from_loader(loader.name, loader))
-    own, sys.argv = sys.argv, [name, "host"]
-    try:
-        with contextlib.redirect_stdout(io.StringIO()):
-            loader.exec_module(module)
-    finally:
-        sys.argv = own
+    loader.exec_module(module)
     return module
 
 
 def library():
-    """The module that `tests/library` compiles, compiled once more with the edges counted."""
-    plain = building.archive()
-    steps = script("tests", "library")
-    made = os.path.join(MADE, "libhost.a")
-    with open(os.path.join(os.path.dirname(plain), "host.stamp")) as f:
-        now = f.read() + COUNTED
-    stamp = os.path.join(MADE, "host.stamp")
-    if not steps.is_made(stamp, now, made):
-        steps.OPTIONS.append(COUNTED)
-        with tempfile.TemporaryDirectory(dir=MADE) as room:
-            fresh = os.path.join(room, "libhost.a")
-            steps.compile_here("host", steps.the_kit(), room, fresh)
-            os.replace(fresh, made)
-        with open(stamp, "w") as f:
-            f.write(now)
+    """The module that ./build compiles, compiled once more with the edges counted."""
+    build = script("build")
+    made = os.path.join(MADE, "liblatchplume.a")
+    try:
+        kit = build.Kit()
+        with build.one_at_a_time():
+            build.compile_module(kit, build.proved(kit), build.MACHINE, made, [COUNTED])
+    except build.Failed as trouble:
+        raise building.Failed(str(trouble)) from None
     return made
 
 

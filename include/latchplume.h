@@ -3,8 +3,8 @@
  *
  * You lend it the bytes and a store of 32-bit words. It answers every input: either it is accepted, and the store then holds a
  * descriptor for each datagram, sample, record and PDU; or it is refused, and the answer says which rule was broken and where.
- * The fields of what a descriptor stands for are read by a call of their own, one for each format. Link the archive whose path
- * `tests/library host` prints.
+ * The fields of what a descriptor stands for are read by a call of their own, one for each format. Link what ./build
+ * makes: liblatchplume.a or liblatchplume.so.
  *
  *     uint8_t data[65536];                                     // what came over UDP, n bytes of it
  *     uint32_t store[LATCHPLUME_STORE_WORDS(sizeof data)];     // room for any datagram of that size
@@ -37,6 +37,9 @@
 #ifdef __cplusplus
 extern "C" {
 #endif
+
+/* The release. Its first number changes where programs must be compiled anew. */
+#define LATCHPLUME_RELEASE "0.1.0"
 
 /* The longest input that is read. */
 #define LATCHPLUME_MAX_INPUT 16777216u

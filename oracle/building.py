@@ -8,10 +8,8 @@ import sys
 HERE = os.path.dirname(os.path.abspath(__file__))
 ROOT = os.path.dirname(HERE)
 MADE = os.path.join(ROOT, "target", "oracle")
-
-
-class Failed(Exception):
-    pass
+sys.path.append(os.path.join(ROOT, "tests"))
+from library import Failed, archive
 
 
 def output(words, what, **more):
@@ -39,10 +37,6 @@ def check_crate():
     with open(os.path.join(HERE, "glue", "record_counters.rs")) as f:
         if f.read() != output([os.path.join(HERE, "glue", "derive")], "oracle/glue/derive"):
             raise Failed("oracle/glue/record_counters.rs is not what oracle/glue/derive prints")
-
-
-def archive():
-    return output([os.path.join(ROOT, "tests", "library"), "host"], "tests/library host").strip()
 
 
 def need(tool, package):

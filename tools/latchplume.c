@@ -32,6 +32,7 @@ static const char HELP[] =
     "  --full     all of a field that has more than 256 bytes or words\n"
     "  --pads     the pads that are not zero, below the field, record or sample that each is behind\n"
     "  --help     this text\n"
+    "  --version  the release\n"
     "\n"
     "exit status: 0 all was accepted\n"
     "             1 a datagram was refused, is cut or is in fragments, or bytes are left over that are no datagram (show)\n"
@@ -299,11 +300,13 @@ int main(int count, char **words)
         void (*each)(struct work *w, const uint8_t *data, size_t length);
     } commands[] = {{"list", list}, {"run", list_run}, {"show", show_all}, {"cut", NULL}};
     setlocale(LC_CTYPE, "");
-    for (int i = 1; i < count; i++)
-        if (strcmp(words[i], "--help") == 0) {
-            fputs(HELP, stdout);
+    for (int i = 1; i < count; i++) {
+        bool help = strcmp(words[i], "--help") == 0;
+        if (help || strcmp(words[i], "--version") == 0) {
+            fputs(help ? HELP : "latchplume " LATCHPLUME_RELEASE "\n", stdout);
             return fflush(stdout) == 0 ? ACCEPTED : TROUBLE;
         }
+    }
     if (count < 2)
         return usage("list, run, show or cut is missing", "");
     for (size_t i = 0; i < sizeof commands / sizeof *commands; i++)

@@ -36,7 +36,7 @@ class Node:
 def prepare():
     """Builds the library, the listing programs and the program that calls every function of the library."""
     os.makedirs(building.INTO, exist_ok=True)
-    archive = building.run([building.at("tests", "library"), "host"]).strip()
+    archive = building.archive()
     building.run(["rt", "check", "listing", "listing_run"])
     building.program("calls", building.calls_sources(), archive, building.PLAIN)
 

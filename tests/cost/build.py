@@ -9,13 +9,15 @@ import sys
 COST = os.path.dirname(os.path.abspath(__file__))
 ROOT = os.path.dirname(os.path.dirname(COST))
 TARGET = os.path.join(ROOT, "target")
-X86_ARCHIVE = os.path.join(TARGET, "staticlib", "libhost.a")
 MACHINE = platform.machine()
+sys.path.append(os.path.join(ROOT, "tests"))
+from library import Failed, archive
+
 FLAGS = ["-O2", "-Wall", "-Wextra", "-Werror", "-I", os.path.join(ROOT, "include")]
 
 
 def fail(said):
-    print("tests/cost/run: " + said, file=sys.stderr)
+    print(f"tests/cost/run: {said}", file=sys.stderr)
     sys.exit(2)
 
 
@@ -39,9 +41,12 @@ def run(words, **more):
 
 
 @functools.cache
-def library():
-    """The library for the machine at hand; the x86-64 archive stands beside it then."""
-    return run([os.path.join(ROOT, "tests", "library"), "host"]).decode().strip()
+def library(processor=MACHINE):
+    """The library's archive for a processor."""
+    try:
+        return archive("--target", processor)
+    except Failed as trouble:
+        fail(trouble)
 
 
 def made(folder, name):
@@ -68,5 +73,5 @@ def x86_program(name):
     compiler = [os.path.join(tools, "bin", "clang"), "--target=" + target, "-ffreestanding", "-fPIC", "-isystem", headers]
     run([*compiler, *FLAGS, "-c", os.path.join(COST, name + ".c"), "-o", code])
     linker = [os.path.join(own, "bin", "rattle-link"), "--target", target, "--toolchain", tools]
-    run([*linker, "-o", made("bin", linked), code, X86_ARCHIVE])
+    run([*linker, "-o", made("bin", linked), code, library("x86_64")])
     return [os.path.join(ROOT, "tests", "program"), linked]

@@ -14,7 +14,7 @@ AGAIN = 9
 def listing():
     for tool in ("objdump", "x86_64-linux-gnu-objdump", "llvm-objdump"):
         if shutil.which(tool):
-            ran = subprocess.run([tool, "-dr", "-M", "intel", "--no-show-raw-insn", build.X86_ARCHIVE], capture_output=True)
+            ran = subprocess.run([tool, "-dr", "-M", "intel", "--no-show-raw-insn", build.library("x86_64")], capture_output=True)
             if ran.returncode == 0 and b"rsp" in ran.stdout:
                 return ran.stdout.decode()
     return build.fail("no objdump on the path that lists x86-64 code (objdump, x86_64-linux-gnu-objdump or llvm-objdump)")

@@ -12,7 +12,7 @@ PLAIN = {"memcpy", "memmove", "memset"}
 
 
 def figures():
-    listed = build.run(["nm", build.X86_ARCHIVE]).decode()
+    listed = build.run(["nm", build.library("x86_64")]).decode()
     if " T latchplume_decode\n" not in listed:
         build.fail("nm does not list the x86-64 archive")
     undefined = set(re.findall(r" U (.+)$", listed, re.M))

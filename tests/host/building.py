@@ -10,17 +10,16 @@ import sys
 
 ROOT = os.path.dirname(os.path.dirname(os.path.dirname(os.path.abspath(__file__))))
 INTO = os.path.join(ROOT, "target", "host")
-LIBRARY = None  # the path of the library, once `prepare` has been called
+sys.path.append(os.path.join(ROOT, "tests"))
+from library import Failed, archive
+
+LIBRARY = None  # the path of the archive, once `prepare` has been called
 WARNINGS = ["-Wall", "-Wextra", "-Werror"]
 PLAIN = ["-O2"]
 CHECKED = ["-O1", "-g", "-fsanitize=address,undefined", "-fno-sanitize-recover=all", "-fno-omit-frame-pointer"]
 
 # looking for leaks takes some seconds a run on some machines; what the command keeps, it keeps until its end
 ENVIRONMENT = {"ASAN_OPTIONS": "detect_leaks=0"}
-
-
-class Failed(Exception):
-    """Something could not be built."""
 
 
 def at(*path):
@@ -39,16 +38,20 @@ def run(words):
 
 
 def prepare():
-    """The library for this machine, the proved listing programs, and libpcap, which ./latchplume installs where it may."""
+    """The library for this machine, and the proved listing programs."""
     global LIBRARY
-    LIBRARY = run([at("tests", "library"), "host"]).strip()
+    for tool, package in (("gcc", "gcc"), ("g++", "g++"), ("nm", "binutils")):
+        if not shutil.which(tool):
+            raise Failed(f"'{tool}' is missing: install Debian's package {package}")
+    if subprocess.run(["gcc", "-E", "-"], input=b"#include <pcap/pcap.h>\n", capture_output=True).returncode:
+        raise Failed("libpcap's header is missing: install Debian's package libpcap-dev")
+    LIBRARY = archive()
     run(["rt", "check", "listing", "listing_run"])
-    run([at("latchplume"), "--help"])
 
 
-def exported(archive):
-    """The names of the library's functions."""
-    listed = subprocess.run(["nm", "--defined-only", "-g", archive], stdout=subprocess.PIPE, text=True, check=True).stdout
+def exported(library, *options):
+    """The names of a library's functions."""
+    listed = subprocess.run(["nm", "--defined-only", "-g", *options, library], stdout=subprocess.PIPE, text=True, check=True).stdout
     return re.findall(r" T (latchplume_\w+)", listed)
 
 

@@ -35,7 +35,7 @@ def wrong_groups(script, header, name):
     with open(os.path.join(folder, "latchplume.h"), "w") as f:
         f.write(header)
     building.program(name + ".program", building.calls_sources(), building.LIBRARY, ["-O0"], include=folder)
-    _, lines, _ = library_checks.answers(building.made(name + ".program"), script)
+    _, lines, _ = library_checks.answers([building.made(name + ".program")], script)
     lines += ["nothing"] * (len(script.expected) - len(lines))
     return {group for group, expected, got in zip(script.groups, script.expected, lines) if expected != got}
 

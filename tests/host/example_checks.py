@@ -77,14 +77,14 @@ def example(name):
     return program
 
 
-def check_first(checks, rng):
-    """A user's first program: a sampled header's bytes, and an SSID whose control character does not get through."""
-    program = example("first")
+def check_first(checks, rng, words=None):
+    """A user's first program, or what these words run: a sampled header's bytes, and an SSID whose control character does not get through."""
+    words = words or [example("first")]
     packet, wire = captures.ethernet(captures.ipv4(b"first")), encoder.Wire(rng)
     bodies = encoder.Body("sampled_header", rng, header=packet), encoder.Body("extended_80211_rx", rng, ssid="guest\x1b[2J")
     wire.datagram([wire.put_sample("flow_sample", [wire.put_record(body) for body in bodies])])
     for data, expected in ((wire.data, packet.hex() + "\nguest.[2J\n"), (encoder.word(4), "refused with code 3 at byte 0\n")):
-        ran = subprocess.run([program], input=bytes(data), capture_output=True)
+        ran = subprocess.run(words, input=bytes(data), capture_output=True)
         checks.same("examples/first.c", expected, ran.stdout.decode())
 
 

@@ -320,13 +320,18 @@ def script(count):
     return s
 
 
-def answers(program, s):
-    ran = subprocess.run([program], input="\n".join(s.lines) + "\n", capture_output=True, text=True)
+def answers(words, s):
+    ran = subprocess.run(words, input="\n".join(s.lines) + "\n", capture_output=True, text=True)
     return ran.returncode, ran.stdout.splitlines(), ran.stderr.strip()
 
 
 def check(checks, s, program):
-    status, lines, said = answers(building.made(program), s)
+    check_answers(checks, s, [building.made(program)], program)
+
+
+def check_answers(checks, s, words, program):
+    """What the program that these words run answers to the script."""
+    status, lines, said = answers(words, s)
     checks.same(f"{program}: status and what it says", (0, ""), (status, said[-2000:]))
     checks.same(f"{program}: answers", len(s.expected), len(lines))
     for expected, got in zip(s.expected, lines):

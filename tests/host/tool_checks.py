@@ -3,6 +3,7 @@ import glob
 import os
 import random
 import re
+import shutil
 import subprocess
 import unicodedata
 
@@ -134,6 +135,9 @@ def usages(tool):
         tool.same("usage", (2, "", f"latchplume: {said}{USAGE}\n"), *words.split())
     status, out, said = tool.run("--help")
     tool.checks.same("--help", (0, "", True), (status, said, out.startswith("usage: latchplume list")))
+    with open(building.at("include", "latchplume.h")) as f:
+        release = re.search(r'^#define LATCHPLUME_RELEASE "(.*)"$', f.read(), re.M).group(1)
+    tool.same("the release", (0, f"latchplume {release}\n", ""), "--version")
     tool.file("-odd", SHORT)
     tool.same("a name with a dash", (0, tool.run("list", "./-odd")[1], ""), "list", "--", "-odd")
 
@@ -284,10 +288,38 @@ def fake(room, name, text):
     return folder
 
 
+def before_anything_is_built(checks, room, command):
+    """In a folder with the script and the files that it is made of, and with neither rt nor a compiler on the path, the script helps all the
+    same, as the command does, and says in one line what is off."""
+    alone = os.path.join(room, "alone")
+    for folder in ("tools", "include"):
+        shutil.copytree(building.at(folder), os.path.join(alone, folder))
+    for name in ("latchplume", "build", "crates.txt"):
+        shutil.copy(building.at(name), alone)
+    tool, before = Tool(checks, room, os.path.join(alone, "latchplume")), os.environ["PATH"]
+    for name in ("sh", "sed", "dirname", "find", "head", "cat", "mkdir", "mktemp", "rm", "env", "python3"):
+        os.makedirs(os.path.join(room, "few"), exist_ok=True)
+        os.symlink(shutil.which(name), os.path.join(room, "few", name))
+    os.environ["PATH"] = os.path.join(room, "few")
+    try:
+        for words in (["--help"], ["show", "--help"], ["--version"]):
+            tool.same("before anything is built", command.run(*words), *words)
+        for words, said in (([], "list, run, show or cut is missing"), (["look"], "there is no command look")):
+            tool.same("before anything is built", (2, "", f"latchplume: {said}{USAGE}\n"), *words)
+        tool.same("no compiler", (2, "", "latchplume: a C compiler is missing: apt-get install gcc libc6-dev\n"), "list", "one")
+        os.symlink("/bin/true", os.path.join(room, "few", "cc"))
+        status, out, said = tool.run("list", "one")
+        checks.same("latchplume list: no toolchain", (2, "", True), (status, out, said.startswith("build: no rt on the path: ")))
+    finally:
+        os.environ["PATH"] = before
+    left = sorted(os.listdir(alone))
+    checks.same("what is left there", ["build", "crates.txt", "include", "latchplume", "target", "tools"], left)
+
+
 def the_script(checks, room):
     """./latchplume builds what is missing, here without libpcap at first, and says nothing of it where all is well."""
     tool = Tool(checks, room, building.at("latchplume"))
-    built = building.at("target", "native", "latchplume")
+    built = building.at("target", "command", "latchplume")
     one, capture = tool.file("one", SHORT), tool.file("capture", captures.pcap([captures.ipv4(captures.udp(SHORT))], captures.RAW))
     missing = "latchplume: libpcap is missing, so pcap files are not read: apt-get install libpcap-dev\n"
     if os.path.exists(built):
@@ -314,4 +346,5 @@ def check_all(checks, room):
         part(tool)
     for part in (refusals, fault_checks.check, pads_shown, trees_shown, cuts, cuts_read_back, nothing_raw, long_fields):
         part(tool, rng)
+    before_anything_is_built(checks, room, Tool(checks, room, building.made("latchplume")))
     the_script(checks, room)
