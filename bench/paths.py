@@ -5,4 +5,4 @@ import sys
 BENCH = os.path.dirname(os.path.abspath(__file__))
 ROOT = os.path.dirname(BENCH)
 # the oracle's `building` comes before that of tests/host
-sys.path[1:1] = [os.path.join(ROOT, *folder) for folder in (("oracle",), ("tests", "cost"), ("tests", "host"))]
+sys.path[1:1] = [os.path.join(ROOT, *folder) for folder in (("oracle",), ("tests", "cost"), ("tests", "host"), ("tests",))]

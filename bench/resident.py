@@ -1,13 +1,14 @@
 """What the two processes held, in lines and as a picture."""
 import feeding
+from library import MAX_DEPTH
 from picture import LogScale, Picture
 
 OURS, CRATE = "#111111", "#c8442b"
 
 
 def expected():
-    """Of all datagrams, how many hold an aggregation deeper than 8, which is refused."""
-    return sum(step.deep * feeding.BLOCKS for step in feeding.STEPS if step.depth > 8)
+    """Of all datagrams, how many hold an aggregation deeper than any that is read, which is refused."""
+    return sum(step.deep * feeding.BLOCKS for step in feeding.STEPS if step.depth > MAX_DEPTH)
 
 
 def lines(ours, crate):
@@ -67,7 +68,7 @@ def draw(ours, crate, path):
     for looks, colour in ((crate.looks, CRATE), (ours.looks, OURS)):
         picture.path([(across(look.datagrams), up(look.most / 1024)) for look in looks], colour, 2.5)
         picture.text(right, up(looks[-1].most / 1024) - 8, f"{looks[-1].most / 1024:.3g} MiB", 13, "end", colour, "bold")
-    said = "Nesting: how deep the aggregations of a step are; Latchplume refuses those beyond 8. No datagram is longer than 65,535 bytes."
+    said = f"Nesting: how deep the aggregations of a step are; Latchplume refuses those beyond {MAX_DEPTH}. No datagram is longer than 65,535 bytes."
     picture.text(20, 462, said, 12, fill="#555")
     picture.text(20, 480, "Made by bench/memory.", 12, fill="#555")
     picture.write(path)

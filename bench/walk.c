@@ -12,7 +12,7 @@
 #define RARELY(condition) __builtin_expect((condition), 0)
 #define OFTEN(condition) __builtin_expect((condition), 1)
 
-enum { MAX_OPAQUE = 104857600, MAX_DEPTH = 8, WORDS_EACH = LATCHPLUME_DESCRIPTOR_WORDS };
+enum { MAX_OPAQUE = LATCHPLUME_MAX_OPAQUE, MAX_DEPTH = LATCHPLUME_MAX_DEPTH, WORDS_EACH = LATCHPLUME_DESCRIPTOR_WORDS };
 
 /* Steps and descriptors are counted in one number, the steps below this one's place. An input has fewer than 2^23 of either. */
 #define DESCRIPTOR ((uint64_t)1 << 23)

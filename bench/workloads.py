@@ -6,9 +6,10 @@ from collections import namedtuple
 
 import encoder
 from datagrams import typical
+from library import MAX_DEPTH, MAX_INPUT
 from shapes import frame, flow_sample, header, opaque, with_string, words
 
-MIB = 1 << 20
+MIB = MAX_INPUT // 16  # so that 16 of them are the longest input
 LONGEST_UDP = 65535
 
 # name, whether its inputs are runs, whether each has a store of its own, how many units a pass is divided by, and the inputs
@@ -42,8 +43,8 @@ def filled(length, samples, last=b""):
 
 
 def nested_records(rng, depth):
-    """What an aggregation's PDU holds: how an 802.11 packet was received, its payload, and the next aggregation; the eighth holds none."""
-    if depth > 8:
+    """What an aggregation's PDU holds: how an 802.11 packet was received, its payload, and the next aggregation; the deepest holds none."""
+    if depth > MAX_DEPTH:
         return 0, b""
     payload = words(0x000fac04) + opaque(rng.randbytes(24))
     received = opaque(b"plume-%02d" % rng.randrange(100)) + rng.randbytes(6) + bytes(2) + words(8, 36) + rng.randbytes(8) + words(1, 2, 3)

@@ -65,7 +65,8 @@ static void count(size_t length)
         agent_of(&got.agent_address)->accepted++;
         return;
     }
-    const uint32_t all[LATCHPLUME_DESCRIPTOR_WORDS] = {LATCHPLUME_DATAGRAM, 0, 0, (uint32_t)length, LATCHPLUME_NOBODY, 0};
+    const uint32_t all[LATCHPLUME_DESCRIPTOR_WORDS] = {
+        [LATCHPLUME_KIND] = LATCHPLUME_DATAGRAM, [LATCHPLUME_LENGTH] = (uint32_t)length, [LATCHPLUME_PARENT] = LATCHPLUME_NOBODY};
     latchplume_header head = latchplume_read_header(data, length, all);
     struct agent *from = head.outcome.code == LATCHPLUME_ACCEPTED ? agent_of(&head.agent_address) : &agents[AGENTS];
     from->refused[got.answer.code < CODES ? got.answer.code : 0]++;

@@ -41,8 +41,18 @@ extern "C" {
 /* The release. Its first number changes where programs must be compiled anew. */
 #define LATCHPLUME_RELEASE "0.1.0"
 
-/* The longest input that is read. */
+/*
+ * The sizes. Each stands here once, and whoever needs one takes it by its name.
+ */
+
+/* The longest input that is read, in bytes. */
 #define LATCHPLUME_MAX_INPUT 16777216u
+
+/* The longest opaque or string, in bytes without its pad. */
+#define LATCHPLUME_MAX_OPAQUE 104857600u
+
+/* The deepest record: one in a PDU of a record at this depth is refused. */
+#define LATCHPLUME_MAX_DEPTH 8u
 
 /* The words of a descriptor. A store of w words holds w / LATCHPLUME_DESCRIPTOR_WORDS of them, rounded down. */
 #define LATCHPLUME_DESCRIPTOR_WORDS 7u
@@ -56,14 +66,14 @@ extern "C" {
  */
 enum latchplume_code {
     LATCHPLUME_ACCEPTED = 0,        /* accepted */
-    LATCHPLUME_INPUT_LENGTH = 1,    /* input longer than 16,777,216 */
+    LATCHPLUME_INPUT_LENGTH = 1,    /* input longer than LATCHPLUME_MAX_INPUT */
     LATCHPLUME_PASSES_END = 2,      /* an item passes the end of what encloses it: the item's first byte */
     LATCHPLUME_VERSION = 3,         /* version is not 5: the version word */
     LATCHPLUME_ADDRESS_TYPE = 4,    /* address type above 2: the type word */
-    LATCHPLUME_OPAQUE_LENGTH = 5,   /* opaque length above 104,857,600: the length word */
+    LATCHPLUME_OPAQUE_LENGTH = 5,   /* opaque length above LATCHPLUME_MAX_OPAQUE: the length word */
     LATCHPLUME_HEADER_PROTOCOL = 6, /* header protocol unknown to `HeaderProtocol`, which knows 1 to 17: the protocol word */
     LATCHPLUME_NOT_UTF8 = 7,        /* string is not UTF-8: the first byte of the first ill-formed sequence */
-    LATCHPLUME_DEPTH = 8,           /* a record would begin at depth 9: where it would begin */
+    LATCHPLUME_DEPTH = 8,           /* a record would begin below LATCHPLUME_MAX_DEPTH: where it would begin */
     LATCHPLUME_NO_ROOM = 9,         /* all else accepted, but the store holds fewer than needed; `needed` is given */
     LATCHPLUME_RANGE = 10,          /* field reading: range passes the input */
     LATCHPLUME_NOT_ASKED = 11       /* field reading: kind or format not the one asked */
@@ -78,7 +88,7 @@ enum latchplume_code {
  *   length    of a datagram all of it; of a sample or record the payload without pad; of a PDU its records with their pads
  *   parent    the parent's index in the store; LATCHPLUME_NOBODY for a datagram
  *   depth     0 for datagrams and samples, 1 for a sample's own records, d + 1 for records in a PDU of a record at depth d; a PDU has
- *             its record's. At most 8
+ *             its record's. At most LATCHPLUME_MAX_DEPTH
  *   first     the first byte of all: of a datagram its start, of a sample or record its format word, of a PDU its record count. A byte of
  *             the parent's range, and at or behind the end of the sibling before
  */

@@ -1,8 +1,15 @@
-"""What the tests, the oracle, the benchmark and the fuzzer take from the library: the archive that ./build makes."""
+"""What the tests, the oracle, the benchmark and the fuzzer take from the library: the archive that ./build makes, and the header's sizes."""
 import os
+import re
 import subprocess
 
 ROOT = os.path.dirname(os.path.dirname(os.path.abspath(__file__)))
+HEADER = os.path.join(ROOT, "include", "latchplume.h")
+
+with open(HEADER) as f:
+    _macros = dict(re.findall(r"^#define LATCHPLUME_(\w+) (\d+)u$", f.read(), re.M))
+DESCRIPTOR_WORDS, MAX_INPUT, MAX_OPAQUE, MAX_DEPTH, NOBODY = (
+    int(_macros[name]) for name in ("DESCRIPTOR_WORDS", "MAX_INPUT", "MAX_OPAQUE", "MAX_DEPTH", "NOBODY"))
 
 
 class Failed(Exception):

@@ -83,7 +83,7 @@ enum status cut_out(const struct cut *which, const struct input *in, uint32_t *s
         return cut_capture(&c, in);
     if (which->packet)
         return trouble(in->name, TROUBLE, "is no capture, and has no packet %lu", which->packet);
-    if (in->length == 0 || in->length > LATCHPLUME_MAX_INPUT)
-        return trouble(in->name, TROUBLE, in->length ? "is longer than 16,777,216 bytes" : "is empty");
+    if (input_is_off(in))
+        return TROUBLE;
     return cut_datagrams(&c, in->data, in->length);
 }

@@ -100,7 +100,8 @@ static bool in_sample(struct search *s, const uint32_t *sample)
 static bool in_datagram(struct search *s, size_t from)
 {
     uint32_t start = (uint32_t)from, length = (uint32_t)(s->length - from);
-    uint32_t all[LATCHPLUME_DESCRIPTOR_WORDS] = {LATCHPLUME_DATAGRAM, 0, start, length, LATCHPLUME_NOBODY, 0, start};
+    uint32_t all[LATCHPLUME_DESCRIPTOR_WORDS] = {[LATCHPLUME_KIND] = LATCHPLUME_DATAGRAM, [LATCHPLUME_START] = start,
+        [LATCHPLUME_LENGTH] = length, [LATCHPLUME_PARENT] = LATCHPLUME_NOBODY, [LATCHPLUME_FIRST] = start};
     uint32_t sample[LATCHPLUME_DESCRIPTOR_WORDS] = {0};
     latchplume_header header = latchplume_read_header(s->data, s->length, all);
     size_t at = header.outcome.at;

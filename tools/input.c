@@ -1,6 +1,7 @@
 #include "input.h"
 
 #include "latchplume.h"
+#include "names.h"
 
 #include <errno.h>
 #include <fcntl.h>
@@ -15,6 +16,17 @@ void input_trouble(const char *name, const char *said)
 {
     fflush(stdout);
     fprintf(stderr, "latchplume: %s: %s\n", strcmp(name, "-") ? name : "standard input", said);
+}
+
+bool input_is_off(const struct input *in)
+{
+    char said[60] = "is empty";
+    if (in->length > LATCHPLUME_MAX_INPUT)
+        snprintf(said, sizeof said, "is longer than %s bytes", name_of_number(LATCHPLUME_MAX_INPUT));
+    else if (in->length > 0)
+        return false;
+    input_trouble(in->name, said);
+    return true;
 }
 
 bool input_is_capture(const uint8_t *data, size_t length)

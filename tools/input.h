@@ -21,6 +21,9 @@ void input_close(struct input *in);
 /* Whether the bytes begin as a pcap or pcapng file does. */
 bool input_is_capture(const uint8_t *data, size_t length);
 
+/* Whether bare datagrams are too many or none; a line says so then. */
+bool input_is_off(const struct input *in);
+
 /* One line about a file, on standard error. */
 void input_trouble(const char *name, const char *said);
 

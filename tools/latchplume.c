@@ -2,6 +2,7 @@
 #include "cut.h"
 #include "fault.h"
 #include "input.h"
+#include "names.h"
 #include "packets.h"
 #include "show.h"
 #include "status.h"
@@ -15,6 +16,7 @@
 #include <stdlib.h>
 #include <string.h>
 
+/* ./latchplume prints it from here before anything is built, with LATCHPLUME_MAX_INPUT in its one place. */
 static const char HELP[] =
     "usage: latchplume list [--port N] FILE          one datagram: the answer, and a line for each descriptor\n"
     "       latchplume run  [--port N] FILE          datagrams end to end, listed likewise\n"
@@ -24,7 +26,7 @@ static const char HELP[] =
     "                                                one record, from its format word to its pad, as a relay would forward it\n"
     "\n"
     "FILE holds sFlow version 5 datagrams, bare; or it is a pcap or pcapng file, whose UDP packets to the sFlow port are read one\n"
-    "by one. - is standard input. Bare datagrams are read up to 16,777,216 bytes.\n"
+    "by one. - is standard input. Bare datagrams are read up to %s bytes.\n"
     "INDEX counts descriptors from 0, as list and run print them. Samples, PDUs and datagrams are cut out as well.\n"
     "\n"
     "  --port N   the port of the packets in a pcap file, instead of 6343\n"
@@ -201,10 +203,8 @@ static void work_on_capture(struct work *w, const struct input *in)
 static void work_on_datagrams(struct work *w, const struct input *in)
 {
     w->each(w, in->data, in->length);
-    if (in->length == 0 || in->length > LATCHPLUME_MAX_INPUT) {
-        input_trouble(in->name, in->length ? "is longer than 16,777,216 bytes" : "is empty");
+    if (input_is_off(in))
         worse(w, TROUBLE);
-    }
 }
 
 static int work(struct work *w)
@@ -303,7 +303,7 @@ int main(int count, char **words)
     for (int i = 1; i < count; i++) {
         bool help = strcmp(words[i], "--help") == 0;
         if (help || strcmp(words[i], "--version") == 0) {
-            fputs(help ? HELP : "latchplume " LATCHPLUME_RELEASE "\n", stdout);
+            printf(help ? HELP : "latchplume " LATCHPLUME_RELEASE "\n", name_of_number(LATCHPLUME_MAX_INPUT));
             return fflush(stdout) == 0 ? ACCEPTED : TROUBLE;
         }
     }

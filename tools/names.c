@@ -8,17 +8,24 @@
 
 static const char *const CODES[] = {
     "accepted",
-    "input longer than 16,777,216",
+    "input longer than %s",
     "an item passes the end of what encloses it",
     "version is not 5",
     "address type above 2",
-    "opaque length above 104,857,600",
+    "opaque length above %s",
     "header protocol unknown to HeaderProtocol",
     "string is not UTF-8",
-    "a record would begin at depth 9",
+    "a record would begin at depth %s",
     "all else accepted, but the store holds fewer than needed",
     "field reading: range passes the input",
     "field reading: kind or format not the one asked",
+};
+
+/* The number in the words of a code. */
+static const uint32_t LIMITS[COUNT(CODES)] = {
+    [LATCHPLUME_INPUT_LENGTH] = LATCHPLUME_MAX_INPUT,
+    [LATCHPLUME_OPAQUE_LENGTH] = LATCHPLUME_MAX_OPAQUE,
+    [LATCHPLUME_DEPTH] = LATCHPLUME_MAX_DEPTH + 1,
 };
 
 /* What the library keeps raw and the crate has a name for. */
@@ -148,9 +155,25 @@ static const char *const MORE_REASONS[] = {
     "uc_reverse_path_forwarding", "split_horizon",
 };
 
+const char *name_of_number(uint32_t number)
+{
+    static char said[16];
+    char *to = said + sizeof said - 1;
+    for (unsigned digits = 0; digits == 0 || number > 0; digits++, number /= 10) {
+        if (digits > 0 && digits % 3 == 0)
+            *--to = ',';
+        *--to = (char)('0' + number % 10);
+    }
+    return to;
+}
+
 const char *name_of_code(uint32_t code)
 {
-    return code < COUNT(CODES) ? CODES[code] : "not a code of this version";
+    static char said[100];
+    if (code >= COUNT(CODES))
+        return "not a code of this version";
+    snprintf(said, sizeof said, CODES[code], name_of_number(LIMITS[code]));
+    return said;
 }
 
 const char *name_of_format(uint32_t kind, uint32_t format)

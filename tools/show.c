@@ -8,8 +8,8 @@
 #include <stdio.h>
 #include <string.h>
 
-/* A datagram, a sample, and eight records each in a PDU of the one above it. */
-#define LEVELS 18
+/* A datagram, a sample, and as many records as can be, each in a PDU of the one above it. */
+#define LEVELS (2 + 2 * LATCHPLUME_MAX_DEPTH)
 
 static unsigned level_of(const uint32_t *one)
 {
@@ -99,7 +99,8 @@ void show_refusal(const struct shown *s, unsigned long number, size_t from, cons
     if (answer->code == LATCHPLUME_NOT_UTF8)
         string_fault(s, from, from + answer->at);
     uint32_t start = (uint32_t)from, length = (uint32_t)(s->length - from);
-    uint32_t all[LATCHPLUME_DESCRIPTOR_WORDS] = {LATCHPLUME_DATAGRAM, 0, start, length, LATCHPLUME_NOBODY, 0, start};
+    uint32_t all[LATCHPLUME_DESCRIPTOR_WORDS] = {[LATCHPLUME_KIND] = LATCHPLUME_DATAGRAM, [LATCHPLUME_START] = start,
+        [LATCHPLUME_LENGTH] = length, [LATCHPLUME_PARENT] = LATCHPLUME_NOBODY, [LATCHPLUME_FIRST] = start};
     if (latchplume_read_header(s->data, s->length, all).outcome.code == LATCHPLUME_ACCEPTED)
         fields(s, all, layout_of(LATCHPLUME_DATAGRAM, 0));
     text_around(1, s->data, s->length, from + answer->at);

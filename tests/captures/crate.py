@@ -9,8 +9,8 @@ import struct
 import subprocess
 
 from figures import BY_FORMAT, ROOT, SHAPES, Node, Place, building
+from library import NOBODY
 
-NOBODY = 4294967295
 HERE = os.path.join(ROOT, "tests", "captures", "crate")
 PROGRAM = os.path.join(ROOT, "target", "captures", "release", "told")
 

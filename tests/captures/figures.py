@@ -11,7 +11,8 @@ import sys
 ROOT = os.path.dirname(os.path.dirname(os.path.dirname(os.path.abspath(__file__))))
 sys.path.insert(0, os.path.join(ROOT, "tests", "host"))
 import building
-from encoder import DESCRIPTOR_WORDS, LAYOUTS, pads
+from encoder import LAYOUTS, pads
+from library import DESCRIPTOR_WORDS
 
 # the layout of a kind and a format, as a name and its fields, each with its shape
 BY_FORMAT = {row[:2]: name for name, row in LAYOUTS.items()}

@@ -1,6 +1,6 @@
 """Document 01's reading of one datagram, with the first bytes of document 02's §6, in Python; and, one at a time, the faults that other decoders
 have had."""
-from encoder import MAX_INPUT, MAX_OPAQUE, NOBODY, pads
+from encoder import MAX_DEPTH, MAX_INPUT, MAX_OPAQUE, NOBODY, descriptor, pads
 from figures import BY_FORMAT, SHAPES, Answer
 
 # what a decoder with the fault does
@@ -97,7 +97,7 @@ class Reader:
         start, length = self.opaque(end)
         behind, stop = self.at, start + length
         index = len(self.rows)
-        self.rows.append((kind, form, start, length, parent, depth, first))
+        self.rows.append(descriptor(kind, form, start, length, parent, depth, first))
         name = BY_FORMAT.get((kind, form & 0xfff if self.fault == MASKED else form))
         if not name:
             if self.fault == UNKNOWN:
@@ -121,7 +121,7 @@ class Reader:
 
     def records(self, count, kind, end, parent, depth):
         for _ in range(count):
-            if depth > 8:
+            if depth > MAX_DEPTH:
                 raise Refused(8, self.at)
             self.frame(kind, len(self.data) if self.fault == SAMPLE else end, parent, depth)
 
@@ -131,7 +131,7 @@ class Reader:
         index, start = len(self.rows), self.at
         self.rows.append(None)
         self.records(count, 2, end, index, depth + 1)
-        self.rows[index] = (4, 0, start, self.at - start, parent, depth, first)
+        self.rows[index] = descriptor(4, 0, start, self.at - start, parent, depth, first)
 
     def datagram(self):
         self.rows.append(None)
@@ -142,7 +142,7 @@ class Reader:
             self.frame(1, len(self.data), 0, 0)
         if self.fault == EXTRA and self.at != len(self.data):
             raise Refused(2, self.at)
-        self.rows[0] = (0, 0, 0, self.at, NOBODY, 0, 0)
+        self.rows[0] = descriptor(0, 0, 0, self.at, NOBODY, 0, 0)
 
 
 def well_formed(text, start):

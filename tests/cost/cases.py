@@ -2,12 +2,11 @@
 for descriptors and, for the first byte and for where a string goes bad, from §6 and §3 of document 02."""
 from collections import namedtuple
 
+from library import DESCRIPTOR_WORDS, MAX_DEPTH, NOBODY
 from long import LONG
 from shapes import (
-    CUT_KINDS, EVERY_KIND, IPV6, P2, P3, P4, P6, P7, P9, P11, P12, P12_DEEPER, P13, counter_sample, frame, header, with_string, words)
+    CUT_KINDS, EVERY_KIND, IPV6, KINDS, P2, P3, P4, P6, P7, P9, P11, P12, P12_DEEPER, P13, counter_sample, frame, header, with_string, words)
 
-NOBODY = 4294967295
-DESCRIPTOR_WORDS = 7
 # as answers.c has them: what the store holds before a call, and how many words behind it are shown too
 FILL = 0xA5A5A5A5
 SPARE = 2 * DESCRIPTOR_WORDS
@@ -36,13 +35,13 @@ def of_h(samples):
 S2 = Session(P2, of_h(0), 24, 6, [(0, 0, 0, 24, NOBODY, 0, 0)])
 S9 = Session(P9, of_h(1), 44, 11, [(0, 0, 0, 44, NOBODY, 0, 0), (1, 2, 32, 12, 0, 0, 24)])
 S11 = Session(P11, of_h(1), 80, 20, nested(1))
-S12 = Session(P12, of_h(1), 192, 48, nested(8))
+S12 = Session(P12, of_h(1), 64 + 16 * MAX_DEPTH, 16 + 4 * MAX_DEPTH, nested(MAX_DEPTH))
 WITH_ADDRESS = Session(words(5) + IPV6 + words(7, 8, 9, 0), (2, bytes(range(16)), 7, 8, 9, 0), 40, 7, [(0, 0, 0, 40, NOBODY, 0, 0)])
 WITH_COUNTERS = Session(header(1) + counter_sample(2, 2 * frame(4097, b"\1")), of_h(1), 68, 15, [
     (0, 0, 0, 68, NOBODY, 0, 0), (1, 2, 32, 36, 0, 0, 24), (3, 4097, 52, 1, 1, 1, 44), (3, 4097, 64, 1, 1, 1, 56)])
 
 # a malformed datagram, its code, position and steps
-MALFORMED = [(P3, 3, 0, 0), (P4, 4, 4, 1), (P6, 2, 28, 7), (P7, 5, 28, 7), (P12_DEEPER, 8, 192, 48), (P13, 6, 72, 18)]
+MALFORMED = [(P3, 3, 0, 0), (P4, 4, 4, 1), (P6, 2, 28, 7), (P7, 5, 28, 7), (P12_DEEPER, 8, S12.at, S12.steps), (P13, 6, 72, 18)]
 # strings that are not UTF-8, and how many of their bytes are before the first ill-formed sequence
 ILL_FORMED = [
     (b"\xff", 0), (b"\xe2\x28\xa1", 0), (b"plain\xc3", 5), (b"\xf0\x9f\xa6\x80\xf0\x9f\xa6", 4), (80 * b"\xc3\xbc" + b"\xed\xa0\x80", 160),
@@ -99,8 +98,8 @@ def sum_of_run():
 
 
 def deep(call):
-    group = "every kind of record at depth 8, whole, and cut short before each of its words"
-    yield Case(group, call, EVERY_KIND, 600, Shown(0, len(EVERY_KIND), None, 39, None, None))
+    group = f"every kind of record at depth {MAX_DEPTH}, whole, and cut short before each of its words"
+    yield Case(group, call, EVERY_KIND, 600, Shown(0, len(EVERY_KIND), None, 2 + 2 * (MAX_DEPTH - 1) + len(KINDS) + 2, None, None))
     for data in CUT_KINDS:
         yield Case(group, call, data, 600, unwritten(2 if call == "decode" else 0, None, None, 0, 600))
 

@@ -5,7 +5,7 @@
 
 #include "latchplume.h"
 
-enum { MIB = 1 << 20, MOST = 16 * MIB, WORDS = LATCHPLUME_STORE_WORDS(MIB) };
+enum { MOST = LATCHPLUME_MAX_INPUT, MIB = MOST / 16, WORDS = LATCHPLUME_STORE_WORDS(MIB) };
 
 static inline int stop(const char *said) {
     fprintf(stderr, "%s\n", said);

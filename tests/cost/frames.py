@@ -4,11 +4,12 @@ import shutil
 import subprocess
 
 import build
+from library import MAX_DEPTH
 
 # what a function that calls nothing may use below its stack pointer
 RED_ZONE = 128
-# A function that calls itself does so for a record in a record: levels 8 to 1, and the call that finds no level left.
-AGAIN = 9
+# A function that calls itself does so for a record in a record: each level down to 1, and the call that finds no level left.
+AGAIN = MAX_DEPTH + 1
 
 
 def listing():

@@ -11,10 +11,11 @@ from concurrent.futures import ThreadPoolExecutor
 from statistics import median
 
 import build
+from library import MAX_INPUT
 from long import ENDINGS, LISTS, LONG, STRINGS
 from shapes import KINDS, with_record
 
-MIB = 1 << 20
+MIB = MAX_INPUT // 16  # so that 16 of them are the longest input
 MOST = 17
 MOST_OF_ACCEPTED = 2
 ROUNDS = 7

@@ -1,4 +1,5 @@
 """Long inputs of one shape, by their size: a function answers at most so many bytes."""
+from library import MAX_DEPTH
 from shapes import MOST, P2, P9, aggregations, counter_sample, flow_sample, frame, header, with_record, with_string, words
 
 RAW = words(4097, 0)
@@ -48,7 +49,7 @@ def datagrams(_, units):
     return units
 
 
-NESTED = flow_sample(1, aggregations(8, 0, b""))
+NESTED = flow_sample(1, aggregations(MAX_DEPTH, 0, b""))
 
 # name, call, the code that is answered at the input's end, and the input
 LONG = [

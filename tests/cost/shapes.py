@@ -1,5 +1,10 @@
-"""Inputs: sessions of document 01, every kind of flow record at depth 8, and long inputs of one shape."""
+"""Inputs: sessions of document 01, every kind of flow record at the deepest depth, and long inputs of one shape."""
+import os
 import struct
+import sys
+
+sys.path.append(os.path.dirname(os.path.dirname(os.path.abspath(__file__))))
+from library import MAX_DEPTH, MAX_OPAQUE
 
 MOST = 4294967295
 
@@ -54,11 +59,12 @@ P3 = words(4)
 P4 = words(5, 3)
 P5 = header(1) + frame(4097, b"\1")
 P6 = P5[:-1]
-P7 = P5[:28] + words(104857601) + P5[32:]
+P7 = P5[:28] + words(MAX_OPAQUE + 1) + P5[32:]
+P8 = P5[:28] + words(MAX_OPAQUE) + P5[32:]
 P9 = header(1) + counter_sample(0, b"")
 P11 = with_aggregations(1, 0, b"")
-P12 = with_aggregations(8, 0, b"")
-P12_DEEPER = with_aggregations(8, 1, b"")
+P12 = with_aggregations(MAX_DEPTH, 0, b"")
+P12_DEEPER = with_aggregations(MAX_DEPTH, 1, b"")
 P13 = with_record(1, words(MOST, 0))
 
 IPV6 = words(2) + bytes(range(16))
@@ -92,10 +98,10 @@ KINDS = {
 }
 
 
-def at_depth_8(records):
-    return with_aggregations(7, len(records), b"".join(records))
+def deepest(records):
+    return with_aggregations(MAX_DEPTH - 1, len(records), b"".join(records))
 
 
-EVERY_KIND = at_depth_8([frame(form, data) for form, data in KINDS.items()])
+EVERY_KIND = deepest([frame(form, data) for form, data in KINDS.items()])
 # each opened kind, cut short before each of its words
-CUT_KINDS = [at_depth_8([frame(form, data[:end])]) for form, data in KINDS.items() if form != RAW_KIND for end in range(0, len(data), 4)]
+CUT_KINDS = [deepest([frame(form, data[:end])]) for form, data in KINDS.items() if form != RAW_KIND for end in range(0, len(data), 4)]

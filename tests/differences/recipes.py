@@ -7,7 +7,7 @@ from shapes import flow_sample, frame, header, words
 RECIPE = re.compile(r"(?P<exactly>exactly )?(?P<kind>[a-zP]\w*)(?: (?P<number>\d+)(?:/(?P<form>\d+))?)?(?: of (?P<count>\d+))?"
                     r"(?::(?P<data>[^,]*))?(?:, then (?P<tail>[^,]*))?(?:, to (?P<size>\d+) bytes)?")
 PIECE = re.compile(r"\((?P<group>[^)]*)\)\*(?P<times>\d+)|(?P<session>P\d+)|(?P<hex>(?:[0-9a-f]{2})+)")
-SESSIONS = {"P1": b"", "P8": shapes.P5[:28] + words(104857600) + shapes.P5[32:], "P10": header(1) + frame(2, words(1, 0))}
+SESSIONS = {"P1": b"", "P10": header(1) + frame(2, words(1, 0))}
 
 
 class Unreadable(Exception):

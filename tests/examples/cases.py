@@ -1,7 +1,10 @@
 """The examples: a call for each layout, each sample, the header and each kind of refusal, and what is expected of it."""
 from structures import MEMO, START, Body, Number, Part, antt_list, number, word, words_of
 
+# Document 01's sizes, as this judge has them: written by hand on purpose, and not taken from the header.
+DESCRIPTOR_WORDS = 7
 MAX_OPAQUE = 104857600
+MAX_DEPTH = 8
 NOBODY = 4294967295
 
 
@@ -205,13 +208,13 @@ def whole():
 
 def undecoded():
     d = Datagram('4', 1)
-    yield Example('no room: the store has a word less than two descriptors take', 'stops %s\n13 9 0 %d 2' % (words_of(d.data), d.steps),
+    yield Example('no room: the store has a word less than two descriptors take', 'stops %s\n%d 9 0 %d 2' % (words_of(d.data), 2 * DESCRIPTOR_WORDS - 1, d.steps),
                   [d.data.hex(' ', -4), 'code 9, at 0, steps %d, descriptors 2' % d.steps])
     inner = b''
-    for _ in range(8):
+    for _ in range(MAX_DEPTH):
         inner = word(1016) + word(8 + len(inner)) + word(1) + word(1) + inner
     sample = bytes(Body('flow_sample', num_records=1).data) + inner
     data = bytes(d.head.data) + word(1) + word(len(sample)) + sample
-    steps = len(d.head.items) + 2 + 8 + 8 * 4
+    steps = len(d.head.items) + 2 + 8 + MAX_DEPTH * 4
     yield Example("a record would begin at depth 9: eight aggregations, each in the other's PDU", 'stops %s\n200 8 %d %d 0' % (words_of(data), len(data), steps),
                   [data.hex(' ', -4), 'code 8, at %d, steps %d' % (len(data), steps)])

@@ -3,10 +3,12 @@
 The values that it puts in are the values that are expected back; no code of the decoder has a part in either."""
 import struct
 
-NOBODY = 4294967295
+# Document 01's sizes, as this judge has them: written by hand on purpose, and not taken from the header, which tests/host/run holds to them.
 DESCRIPTOR_WORDS = 7
 MAX_INPUT = 16777216
 MAX_OPAQUE = 104857600
+MAX_DEPTH = 8
+NOBODY = 4294967295
 
 # Document 01's rows, with the crate's names: kind, format, and the fields in order. A field is a word where no shape is named.
 LAYOUTS = {
@@ -47,6 +49,11 @@ WORDS_OF_NAMES = ["", "a", "eth0", "guest", "Café 3", "日本", "\x00\x1b[31m",
 
 def word(number):
     return struct.pack(">I", number)
+
+
+def descriptor(kind, form, start, length, parent, depth, first):
+    """The words of a descriptor, in their order."""
+    return kind, form, start, length, parent, depth, first
 
 
 def pads(length):
@@ -241,14 +248,14 @@ class Wire:
         self.steps += 2
         row, start = len(self.rows), len(self.data)
         self.rows.append(None)
-        self.rows[row] = (kind, form, start, 0, parent, depth, begin)
+        self.rows[row] = descriptor(kind, form, start, 0, parent, depth, begin)
         left_over = fill(row)
         self.data += self.rng.randbytes(left_over or 0)
         length = len(self.data) - start
         self.data[start - 4:start] = word(length)
         self.pads.append((len(self.data), self.rng.randbytes(pads(length))))
         self.data += self.pads[-1][1]
-        self.rows[row] = (kind, form, start, length, parent, depth, begin)
+        self.rows[row] = descriptor(kind, form, start, length, parent, depth, begin)
         if kind == 1:
             self.outer += [(begin, begin + 4, before), (begin + 4, len(self.data), before + 1)]
 
@@ -275,7 +282,7 @@ class Wire:
                 self.rows.append(None)
                 for put in records:
                     put(pdu, depth + 1)
-                self.rows[pdu] = (4, 0, start, len(self.data) - start, row, depth, begin)
+                self.rows[pdu] = descriptor(4, 0, start, len(self.data) - start, row, depth, begin)
         self.enclosed(2, 1016, parent, depth, fill)
 
     def sample(self, parent, name, puts, left_over=0, **given):
@@ -290,12 +297,12 @@ class Wire:
     def datagram(self, puts, **given):
         """A datagram and its samples: functions that put a sample, given its parent."""
         row, start = len(self.rows), len(self.data)
-        self.rows.append((0, 0, start, 0, NOBODY, 0, start))
+        self.rows.append(descriptor(0, 0, start, 0, NOBODY, 0, start))
         head = Body("header", self.rng, num_samples=len(puts), **given)
         self.body(row, head)
         for put in puts:
             put(row)
-        self.rows[row] = (0, 0, start, len(self.data) - start, NOBODY, 0, start)
+        self.rows[row] = descriptor(0, 0, start, len(self.data) - start, NOBODY, 0, start)
         return head
 
     def put_record(self, body, left_over=0):
@@ -324,7 +331,7 @@ def of_one_record(rng, body, sample="flow_sample", depth=1):
 def any_record(wire, rng, depth):
     """A function that puts some record: of a known format, raw, or an aggregation where there is room below."""
     turn = rng.random()
-    if turn < 0.15 and depth < 8:
+    if turn < 0.15 and depth < MAX_DEPTH:
         return wire.put_aggregation([[any_record(wire, rng, depth + 1) for _ in range(rng.randint(0, 2))] for _ in range(rng.randint(0, 3))])
     if turn < 0.3:
         return wire.put_raw(2, rng.choice((1017, 1 << 12 | 1, 5, 0, 4095, 1036)), rng.randbytes(rng.randint(0, 9)))

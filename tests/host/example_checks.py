@@ -6,6 +6,7 @@ import subprocess
 import building
 import captures
 import encoder
+import library
 import tool_checks
 
 AROUND = """
@@ -108,9 +109,12 @@ def sessions(text):
 
 
 def check_readme(checks):
-    """Its commands print what it says, and its loops stand in the examples as they stand there."""
+    """Its commands print what it says, its loops stand in the examples as they stand there, and its sizes are the header's."""
     with open(building.at("README.md")) as f:
         text = f.read()
+    for said in (f"| 1 | the input is longer than {library.MAX_INPUT:,} bytes |", f"| 5 | an opaque's length is above {library.MAX_OPAQUE:,} |",
+                 f"| 8 | a record would begin at depth {library.MAX_DEPTH + 1} |"):
+        checks.holds(f"README.md has the line {said}", said in text)
     found = list(sessions(text))
     checks.holds("README.md shows commands with what they print", found)
     for command, expected in found:

@@ -44,7 +44,7 @@ def wire_around(rng, body):
     def some(depth, least=0):
         return [encoder.any_record(wire, rng, depth) for _ in range(rng.randint(least, 2))]
 
-    put, depth = wire.put_record(body), rng.choice((1, 1, 2, 3, 8))
+    put, depth = wire.put_record(body), rng.choice((1, 1, 2, 3, encoder.MAX_DEPTH))
     for below in range(depth, 1, -1):
         put = wire.put_aggregation([*[some(below) for _ in range(rng.randint(0, 2))], [*some(below), put, *some(below)]])
     other = wire.put_sample("counters_sample", [wire.put_raw(3, 1, b"abcde")])

@@ -5,11 +5,17 @@ import subprocess
 
 import building
 import encoder
-from encoder import Body, DESCRIPTOR_WORDS, LAYOUTS, MAX_INPUT, NOBODY, RECORDS, SAMPLES, Wire, pads
+import library
+from encoder import Body, DESCRIPTOR_WORDS, LAYOUTS, MAX_DEPTH, MAX_INPUT, NOBODY, RECORDS, SAMPLES, Wire, pads
 
 NO_ADDRESS = "0/" + "00" * 16
 NO_HEADER = f" agent_address={NO_ADDRESS} sub_agent_id=0 sequence_number=0 uptime=0 num_samples=0"
 MOST = 2 ** 64 - 1
+
+
+def spelt(row):
+    """A descriptor for the program `calls`; the words that are left out at its end are 0."""
+    return " ".join(map(str, [*row, *[0] * (DESCRIPTOR_WORDS - len(row))]))
 
 
 class Script:
@@ -40,7 +46,7 @@ class Script:
         self.ask("run", f"run {words}", f"run code={code} at={at} steps={steps} needed={needed}{shown} changed=0")
 
     def read(self, body, row, expected):
-        self.ask(body.name, f"read {body.name} " + " ".join(map(str, row)), f"{body.name} {expected}")
+        self.ask(body.name, f"read {body.name} {spelt(row)}", f"{body.name} {expected}")
 
     def read_refused(self, body, row, code, at=0, steps=0):
         self.read(body, row, f"code={code} at={at} steps={steps}{body.zeros()}")
@@ -49,10 +55,10 @@ class Script:
         self.read(body, row, f"code=0 at={base + len(body.data)} steps={len(body.items)}{body.values(base)}")
 
     def payload(self, row, start, count):
-        self.ask("payload", "payload " + " ".join(map(str, row)), f"payload {start}+{count}")
+        self.ask("payload", "payload " + spelt(row), f"payload {start}+{count}")
 
     def whole(self, row, start, count):
-        self.ask("whole", "whole " + " ".join(map(str, row)), f"whole {start}+{count}")
+        self.ask("whole", "whole " + spelt(row), f"whole {start}+{count}")
 
     def word(self, start, count, n, value):
         answer = "present=0 value=0" if value is None else f"present=1 value={value}"
@@ -144,7 +150,7 @@ def faults(s, rng):
     first.datagram([])
     for name in ["header", *SAMPLES, *RECORDS]:
         for turn in range(6):
-            wire, row, body, base, steps = wire_of(rng, name, (1, 2, 8)[turn % 3])
+            wire, row, body, base, steps = wire_of(rng, name, (1, 2, MAX_DEPTH)[turn % 3])
             for item, offset, code, raw, bad in body.faults:
                 data, at = spoiled(wire, base, offset, raw), base + bad
                 s.data(data)
@@ -181,24 +187,24 @@ def cut_records(s, rng, body):
 
 
 def too_deep(s, rng):
-    """A record at depth 8 is read; one at depth 9 is refused where it would begin, whatever its bytes are."""
+    """A record at the deepest depth is read; one below it is refused where it would begin, whatever its bytes are."""
     for record in (bytes(8), bytes(1), b"", b"\xff" * 12):
         wire = Wire(rng)
         put = wire.put_raw(2, 0, b"")
-        for _ in range(8):
+        for _ in range(MAX_DEPTH):
             put = wire.put_aggregation([[put]])
         wire.datagram([wire.put_sample("flow_sample", [put])])
         depth, start = wire.rows[-1][5], wire.rows[-1][6]
-        assert depth == 9
+        assert depth == MAX_DEPTH + 1
         s.data(wire.data)
         s.refused(6000, 8, start, wire.steps - 2)
-    wire = encoder.of_one_record(rng, Body("extended_80211_rx", rng), depth=8)
+    wire = encoder.of_one_record(rng, Body("extended_80211_rx", rng), depth=MAX_DEPTH)
     s.data(wire.data)
     s.decoded(wire, wire.bodies[0][1], DESCRIPTOR_WORDS * len(wire.rows))
 
 
 def longest(s, rng):
-    """16,777,216 bytes are read, and one more is not, by any call."""
+    """The longest input is read, and one byte more is not, by any call."""
     wire = Wire(rng)
     head = wire.datagram([])
     s.data(wire.data, MAX_INPUT)
@@ -210,8 +216,8 @@ def longest(s, rng):
     s.ran(12, 1, 0, 0, 0)
     for name, (kind, form, _) in LAYOUTS.items():
         body = Body(name, rng)
-        s.read_refused(body, (kind, form, 0, 24, 0, 0, 0), 1)
-        s.read_refused(body, (kind + 9, form, NOBODY, 24, 0, 0, 0), 1)
+        s.read_refused(body, (kind, form, 0, 24), 1)
+        s.read_refused(body, (kind + 9, form, NOBODY, 24), 1)
     s.payload(wire.rows[0], 0, 0)
     s.whole(wire.rows[0], 0, 0)
     s.segment(0, 1, 0, 0)
@@ -227,12 +233,12 @@ def nothing(s, rng):
     s.ran(12, 0, 0, 0, 0)
     for name, (kind, form, _) in LAYOUTS.items():
         body = Body(name, rng)
-        s.read_refused(body, (kind, form, 0, 0, 0, 0, 0), 2, 0, 0)
-        s.read_refused(body, (kind, form, 1, 0, 0, 0, 0), 10)
-        s.read_refused(body, (kind + 1, form, 0, 0, 0, 0, 0), 11)
+        s.read_refused(body, (kind, form), 2, 0, 0)
+        s.read_refused(body, (kind, form, 1), 10)
+        s.read_refused(body, (kind + 1, form), 11)
     for length in (0, 1):
-        s.payload((0, 0, 0, length, 0, 0, 0), 0, 0)
-        s.whole((0, 0, 0, length, 0, 0, 0), 0, 0)
+        s.payload((0, 0, 0, length), 0, 0)
+        s.whole((0, 0, 0, length), 0, 0)
     s.word(0, 0, 0, None)
     s.word(0, 1, 0, None)
     s.segment(0, 2, 0, 0)
@@ -253,16 +259,16 @@ def ranges_and_kinds(s, rng):
         past = [(size, 1), (size + 1, 0), (0, size + 1), (1, size)]
         past += [(NOBODY, 1), (NOBODY, NOBODY), (1, NOBODY), (half, half), (NOBODY - 3, 4 + size)]
         for start, length in past:
-            s.read_refused(body, (kind, form, start, length, 0, 0, 0), 10)
-            s.read_refused(body, (kind + 1, form + 1, start, length, 0, 0, 0), 10)
-            s.payload((kind, form, start, length, 0, 0, 0), 0, 0)
-            s.whole((kind, form, start, length, 0, 0, 0), 0, 0)
+            s.read_refused(body, (kind, form, start, length), 10)
+            s.read_refused(body, (kind + 1, form + 1, start, length), 10)
+            s.payload((kind, form, start, length), 0, 0)
+            s.whole((kind, form, start, length), 0, 0)
         for other, (other_kind, other_form, _) in LAYOUTS.items():
             if other != name:
-                s.read_refused(body, (other_kind, other_form, 0, size, 0, 0, 0), 11)
+                s.read_refused(body, (other_kind, other_form, 0, size), 11)
         for wrong in ((kind, form + (1 << 12)), (kind, form | half), (kind + 1, form), (4, 0), (3, form), (kind + 256, form), (NOBODY, form)):
-            s.read_refused(body, (*wrong, 0, size, 0, 0, 0), 11)
-        s.read_whole(body, (kind, form, 0, size, *(rng.getrandbits(32) for _ in range(3))), 0)
+            s.read_refused(body, (*wrong, 0, size), 11)
+        s.read_whole(body, (kind, form, 0, size, *(rng.getrandbits(32) for _ in range(DESCRIPTOR_WORDS - 4))), 0)
 
 
 def wholes(s, rng):
@@ -348,7 +354,14 @@ def codes_met(checks, s):
     checks.same("functions that are called", building.declared(), sorted(names))
 
 
+def sizes(checks):
+    """The header's sizes are those that the encoder has by its own hand."""
+    for name in ("DESCRIPTOR_WORDS", "MAX_INPUT", "MAX_OPAQUE", "MAX_DEPTH", "NOBODY"):
+        checks.same(f"the header: {name}", getattr(encoder, name), getattr(library, name))
+
+
 def check_all(checks, count):
+    sizes(checks)
     s = script(count)
     codes_met(checks, s)
     check(checks, s, "calls")

@@ -114,11 +114,11 @@ def troubles(tool):
     tool.same("the longest", (1, "code=3 at=24 steps=6 descriptors=0\n", ""), "run", most)
     more = tool.file("more", SHORT + bytes(encoder.MAX_INPUT - 23))
     for command in ("list", "run"):
-        tool.same("too long", (2, long, "latchplume: more: is longer than 16,777,216 bytes\n"), command, more)
-    shown = "datagram 1: refused: code 1: input longer than 16,777,216\n  position: 0, after 0 items that were read\n"
-    tool.same("too long", (2, shown, "latchplume: more: is longer than 16,777,216 bytes\n"), "show", more)
+        tool.same("too long", (2, long, f"latchplume: more: is longer than {encoder.MAX_INPUT:,} bytes\n"), command, more)
+    shown = f"datagram 1: refused: code 1: input longer than {encoder.MAX_INPUT:,}\n  position: 0, after 0 items that were read\n"
+    tool.same("too long", (2, shown, f"latchplume: more: is longer than {encoder.MAX_INPUT:,} bytes\n"), "show", more)
     pipe = SHORT + bytes(encoder.MAX_INPUT + 5000)
-    tool.same("too long", (2, long, "latchplume: standard input: is longer than 16,777,216 bytes\n"), "list", "-", data=pipe)
+    tool.same("too long", (2, long, f"latchplume: standard input: is longer than {encoder.MAX_INPUT:,} bytes\n"), "list", "-", data=pipe)
 
 
 def usages(tool):
@@ -208,7 +208,7 @@ def cuts_read_back(tool, rng):
     """A record that was cut out, as the one record of a sample that is made here, shows the same fields."""
     for name in encoder.RECORDS:
         body = encoder.Body(name, rng)
-        wire = encoder.of_one_record(rng, body, depth=rng.randint(1, 8))
+        wire = encoder.of_one_record(rng, body, depth=rng.randint(1, encoder.MAX_DEPTH))
         status, cut, said = tool.run("cut", tool.file("one", wire.data), str(len(wire.rows) - 1), raw=True)
         tool.checks.same(f"cut {name}: status", (0, ""), (status, said))
         sample = b"".join(map(encoder.word, (1, 32 + len(cut), 0, 0, 0, 0, 0, 0, 0, 1))) + cut
@@ -230,7 +230,7 @@ def cut_troubles(tool):
     cut = "an item passes the end of what encloses it"
     for status, words, said in (
         (2, "nowhere 0", "nowhere: there is no such file"), (2, "nothing 0", "nothing: is empty"), (1, "bad 0", f"bad: is refused: code 2: {cut}, at 20"),
-        (2, "one 1", "one: has no descriptor 1: the last one is 0"), (2, "more 0", "more: is longer than 16,777,216 bytes"),
+        (2, "one 1", "one: has no descriptor 1: the last one is 0"), (2, "more 0", f"more: is longer than {encoder.MAX_INPUT:,} bytes"),
         (2, "--packet 1 one 0", "one: is no capture, and has no packet 1"), (2, "capture 0", "capture: is a capture: --packet says which of its packets"),
         (2, "--packet 4 capture 0", "capture: has no UDP packet 4 to port 6343 (--port names another)"),
         (2, "--packet 2 --port 1 capture 0", "capture: has no UDP packet 2 to port 1 (--port names another)"),

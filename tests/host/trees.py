@@ -3,12 +3,12 @@ import ipaddress
 import re
 
 import library_checks
-from encoder import Body, LAYOUTS, RECORDS, Span, Wire, of_one_record
+from encoder import Body, LAYOUTS, MAX_DEPTH, MAX_OPAQUE, RECORDS, Span, Wire, of_one_record
 
 # document 01's words
 CODES = {
-    2: "an item passes the end of what encloses it", 3: "version is not 5", 4: "address type above 2", 5: "opaque length above 104,857,600",
-    6: "header protocol unknown to HeaderProtocol", 7: "string is not UTF-8", 8: "a record would begin at depth 9",
+    2: "an item passes the end of what encloses it", 3: "version is not 5", 4: "address type above 2", 5: f"opaque length above {MAX_OPAQUE:,}",
+    6: "header protocol unknown to HeaderProtocol", 7: "string is not UTF-8", 8: f"a record would begin at depth {MAX_DEPTH + 1}",
 }
 
 # A layout, the values of some of its fields, and lines that the tree must have.

@@ -50,7 +50,8 @@ impl Grower<'_> {
     /// A length that is not that of the bytes.
     fn said(&mut self, length: usize) -> Option<u32> {
         let near = length as u32;
-        let wrong = [near + 4, near + 1, near.saturating_sub(1), 104_857_600, 104_857_601, u32::MAX, 0x8000_0000];
+        let most = MAX_OPAQUE as u32;
+        let wrong = [near + 4, near + 1, near.saturating_sub(1), most, most + 1, u32::MAX, 0x8000_0000];
         self.goes_wrong().then(|| self.random.pick(&wrong))
     }
 

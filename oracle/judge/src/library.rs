@@ -1,7 +1,7 @@
 //! The library's calls and structs as ../../../include/latchplume.h declares them. `c_checks` writes a C program that does not compile
 //! where one of these declarations is not the header's.
 
-use crate::shape::{Descriptor, DESCRIPTOR_WORDS};
+use crate::shape::{Descriptor, DESCRIPTOR_WORDS, MAX_DEPTH, MAX_INPUT, MAX_OPAQUE, NOBODY};
 use crate::value::Value;
 use std::fmt::Write;
 use std::mem::{offset_of, size_of};
@@ -286,7 +286,16 @@ latchplume_segment (*const call_segment)(const uint8_t *, size_t, size_t) = latc
 /// C that compiles only where every declaration here is the header's.
 pub fn c_checks() -> String {
     let mut out = String::from("#include \"latchplume.h\"\n");
-    let _ = writeln!(out, "_Static_assert(LATCHPLUME_DESCRIPTOR_WORDS == {DESCRIPTOR_WORDS}, \"descriptor: words\");");
+    let sizes = [
+        ("DESCRIPTOR_WORDS", DESCRIPTOR_WORDS),
+        ("MAX_INPUT", MAX_INPUT),
+        ("MAX_OPAQUE", MAX_OPAQUE),
+        ("MAX_DEPTH", MAX_DEPTH as usize),
+        ("NOBODY", NOBODY as usize),
+    ];
+    for (name, size) in sizes {
+        let _ = writeln!(out, "_Static_assert(LATCHPLUME_{name} == {size}, \"{name}\");");
+    }
     c_structs(&mut out);
     c_readings(&mut out);
     out + OTHER_CALLS

@@ -3,7 +3,7 @@
 
 use crate::compare::{reading_of, theirs};
 use crate::fault::Library;
-use crate::shape::{AGGREGATION, DESCRIPTOR_WORDS, MAX_DEPTH, MAX_INPUT};
+use crate::shape::{AGGREGATION, DESCRIPTOR_WORDS, MAX_DEPTH, MAX_INPUT, MAX_OPAQUE};
 use crate::tally::{same, Checked, Tally};
 use crate::tree::*;
 
@@ -85,9 +85,9 @@ fn too_long() -> Vec<Row> {
     };
     vec![
         // The crate reads the zeros behind P2 as a datagram of another version.
-        refused("longer than 16,777,216 bytes: P2, and zeros", to_length(p2.clone()), (1, 0), 0, (3, 0)),
-        refused("longer than 16,777,216 bytes: version 4, and zeros", to_length(vec![0, 0, 0, 4]), (1, 0), 3, (3, 0)),
-        refused("longer than 16,777,216 bytes: P2, end to end", p2.repeat(times), (1, 0), 0, (0, times)),
+        refused("longer than the longest input: P2, and zeros", to_length(p2.clone()), (1, 0), 0, (3, 0)),
+        refused("longer than the longest input: version 4, and zeros", to_length(vec![0, 0, 0, 4]), (1, 0), 3, (3, 0)),
+        refused("longer than the longest input: P2, end to end", p2.repeat(times), (1, 0), 0, (0, times)),
     ]
 }
 
@@ -101,7 +101,7 @@ fn too_deep() -> Vec<Row> {
 }
 
 fn opened() -> Vec<Row> {
-    let (bad, long) = (b"\xff\0\0\0", 104_857_601);
+    let (bad, long) = (b"\xff\0\0\0", MAX_OPAQUE as u32 + 1);
     let flow = |format, words: &[u32], more: &[u8]| flows(vec![raw(format, words, more)]);
     let unknown = raw(1, &[0], &[]);
     vec![
@@ -109,12 +109,12 @@ fn opened() -> Vec<Row> {
         kept_raw("flow record 1 of enterprise 4413, empty", flow(4413 << 12 | 1, &[], &[]), 2),
         kept_raw("flow record 1027, as the crate takes it", flow(1027, &[7], &[]), 0),
         kept_raw("flow record 1038, its string not UTF-8", flow(1038, &[1], bad), 7),
-        kept_raw("flow record 2001, its length above 104,857,600", flow(2001, &[long], &[]), 5),
+        kept_raw("flow record 2001, its length above the longest opaque", flow(2001, &[long], &[]), 5),
         refused("flow record 1017, empty, and a fault behind it", flows(vec![raw(1017, &[], &[]), unknown]), (6, 80), 2, (0, 0)),
         kept_raw("counter record 1, empty", counter(raw(1, &[], &[])), 2),
         kept_raw("counter record 3002, as the crate takes it", counter(raw(3002, &[7], &[])), 0),
         kept_raw("counter record 1005, its string not UTF-8", counter(raw(1005, &[1], bad)), 7),
-        kept_raw("counter record 1005, its length above 104,857,600", counter(raw(1005, &[long], &[])), 5),
+        kept_raw("counter record 1005, its length above the longest opaque", counter(raw(1005, &[long], &[])), 5),
     ]
 }
 

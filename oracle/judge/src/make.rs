@@ -2,6 +2,7 @@
 
 use crate::grow::{Grower, Plan};
 use crate::random::Random;
+use crate::shape::MAX_DEPTH;
 
 pub fn input(seed: u64, case: u64) -> Vec<u8> {
     let mut random = Random::of_case(seed, case);
@@ -25,11 +26,11 @@ pub fn input(seed: u64, case: u64) -> Vec<u8> {
 }
 
 fn datagram(random: &mut Random, trouble: usize) -> Vec<u8> {
-    // Depth 9 is a place that goes wrong, too; 10 is one whose first wrong record holds another.
+    // One below the deepest is a place that goes wrong, too; the next is one whose first wrong record holds another.
     let reach = match random.below(12) {
-        0 => 8,
-        1 => 1 + random.below(8) as u32,
-        2 if trouble > 0 => 9 + random.below(2) as u32,
+        0 => MAX_DEPTH,
+        1 => 1 + random.below(MAX_DEPTH as usize) as u32,
+        2 if trouble > 0 => MAX_DEPTH + 1 + random.below(2) as u32,
         _ => 0,
     };
     let plan = Plan { trouble, outside: random.chance(1, 5), reach };

@@ -38,14 +38,17 @@ pub const FLOW: u32 = 2;
 pub const COUNTER: u32 = 3;
 pub const PDU: u32 = 4;
 pub const AGGREGATION: u32 = 1016;
+pub const NOBODY: u32 = u32::MAX;
+
+// Document 01's sizes, as this judge has them: written by hand on purpose, and not taken from the header, which `library::c_checks` holds
+// to them.
 pub const MAX_INPUT: usize = 16_777_216;
 pub const MAX_OPAQUE: usize = 104_857_600;
 pub const MAX_DEPTH: u32 = 8;
-pub const NOBODY: u32 = u32::MAX;
+pub const DESCRIPTOR_WORDS: usize = 7;
 
 /// Kind, format, start, length, parent, depth, first byte.
 pub type Descriptor = [u32; DESCRIPTOR_WORDS];
-pub const DESCRIPTOR_WORDS: usize = 7;
 
 /// The last word of a sample's row is the count of its records; that of 1016 the count of its PDUs.
 pub const LAYOUTS: [Layout; 26] = [

@@ -108,7 +108,7 @@ fn long_inputs(length: usize) -> Vec<(&'static str, Vec<u8>)> {
     ]
 }
 
-/// Inputs of 16,777,215, 16,777,216 and 16,777,217 bytes, filled up with zeros; and such as lack their last bytes.
+/// Inputs of the longest length, of one byte less and of one more, filled up with zeros; and such as lack their last bytes.
 pub fn long(fault: u32) -> Tally {
     let mut judge = Judge::new(fault);
     for length in [MAX_INPUT - 1, MAX_INPUT, MAX_INPUT + 1] {
