@@ -119,10 +119,10 @@ def layout_text():
     return crate_text('layout', 'the segments of an AS path', [segment], ['segments'], shown_uses('layout', ['a-segment']))
 
 
-def flows_text():
+def flow_layouts_text():
     bodies = flow_bodies()
-    return crate_text('flows', 'the flow records', [of_body('flow', b) for b in bodies], ['flow-records'],
-                      shown_uses('flows', [dashed(b.name) for b in bodies]))
+    return crate_text('flow_layouts', 'the flow records', [of_body('flow', b) for b in bodies], ['flow-records'],
+                      shown_uses('flow_layouts', [dashed(b.name) for b in bodies]))
 
 
 def samples_text():

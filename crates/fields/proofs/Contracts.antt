@@ -8,7 +8,7 @@ use Rattle.xdr.specs.Shown.{span, answer-of}
 use Rattle.xdr.proofs.Settles.{Settles, settled}
 use Rattle.xdr.proofs.Lossless.{span-lossless}
 use Rattle.layout.specs.Shown.{a-segment}
-use Rattle.flows.specs.Shown.{sampled-header, sampled-ethernet, sampled-ipv4, sampled-ipv6, extended-switch, extended-router, extended-gateway, extended-user, extended-url, extended-mpls, extended-nat, extended-mpls-tunnel, extended-mpls-vc, extended-mpls-fec, extended-mpls-lvp-fec, extended-vlan-tunnel, extended-80211-payload, extended-80211-rx, extended-80211-tx, extended-80211-aggregation}
+use Rattle.flow_layouts.specs.Shown.{sampled-header, sampled-ethernet, sampled-ipv4, sampled-ipv6, extended-switch, extended-router, extended-gateway, extended-user, extended-url, extended-mpls, extended-nat, extended-mpls-tunnel, extended-mpls-vc, extended-mpls-fec, extended-mpls-lvp-fec, extended-vlan-tunnel, extended-80211-payload, extended-80211-rx, extended-80211-tx, extended-80211-aggregation}
 use Rattle.samples.specs.Shown.{flow-sample, counters-sample, flow-sample-expanded, counters-sample-expanded, discarded-packet}
 use Rattle.datagram.specs.Shown.{header-fields}
 use Rattle.datagram.proofs.Lossless.{header-lossless}

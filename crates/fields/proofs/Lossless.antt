@@ -6,28 +6,28 @@ use Rattle.xdr.specs.Shown.{answer-of}
 use Rattle.xdr.proofs.Settles.{Lossless, got-back}
 use Rattle.xdr.proofs.Lossless.{outcome-of, word-at, bytes-at, address-at, range-at}
 use Rattle.layout.specs.declared.lists.Segment.{Segment}
-use Rattle.flows.specs.declared.sampled.SampledHeader.{SampledHeader}
-use Rattle.flows.specs.declared.sampled.SampledEthernet.{SampledEthernet}
-use Rattle.flows.specs.declared.sampled.SampledIpv4.{SampledIpv4}
-use Rattle.flows.specs.declared.sampled.SampledIpv6.{SampledIpv6}
-use Rattle.flows.specs.declared.extended.ExtendedSwitch.{ExtendedSwitch}
-use Rattle.flows.specs.declared.extended.ExtendedRouter.{ExtendedRouter}
-use Rattle.flows.specs.declared.extended.ExtendedGateway.{ExtendedGateway}
-use Rattle.flows.specs.declared.extended.ExtendedUser.{ExtendedUser}
-use Rattle.flows.specs.declared.extended.ExtendedUrl.{ExtendedUrl}
-use Rattle.flows.specs.declared.extended.ExtendedNat.{ExtendedNat}
-use Rattle.flows.specs.declared.extended.ExtendedVlanTunnel.{ExtendedVlanTunnel}
-use Rattle.flows.specs.declared.mpls.ExtendedMpls.{ExtendedMpls}
-use Rattle.flows.specs.declared.mpls.ExtendedMplsTunnel.{ExtendedMplsTunnel}
-use Rattle.flows.specs.declared.mpls.ExtendedMplsVc.{ExtendedMplsVc}
-use Rattle.flows.specs.declared.mpls.ExtendedMplsFec.{ExtendedMplsFec}
-use Rattle.flows.specs.declared.mpls.ExtendedMplsLvpFec.{ExtendedMplsLvpFec}
-use Rattle.flows.specs.declared.wireless.Extended80211Payload.{Extended80211Payload}
-use Rattle.flows.specs.declared.wireless.Extended80211Rx.{Extended80211Rx}
-use Rattle.flows.specs.declared.wireless.Extended80211Tx.{Extended80211Tx}
-use Rattle.flows.specs.declared.wireless.Extended80211Aggregation.{Extended80211Aggregation}
+use Rattle.flow_layouts.specs.declared.sampled.SampledHeader.{SampledHeader}
+use Rattle.flow_layouts.specs.declared.sampled.SampledEthernet.{SampledEthernet}
+use Rattle.flow_layouts.specs.declared.sampled.SampledIpv4.{SampledIpv4}
+use Rattle.flow_layouts.specs.declared.sampled.SampledIpv6.{SampledIpv6}
+use Rattle.flow_layouts.specs.declared.extended.ExtendedSwitch.{ExtendedSwitch}
+use Rattle.flow_layouts.specs.declared.extended.ExtendedRouter.{ExtendedRouter}
+use Rattle.flow_layouts.specs.declared.extended.ExtendedGateway.{ExtendedGateway}
+use Rattle.flow_layouts.specs.declared.extended.ExtendedUser.{ExtendedUser}
+use Rattle.flow_layouts.specs.declared.extended.ExtendedUrl.{ExtendedUrl}
+use Rattle.flow_layouts.specs.declared.extended.ExtendedNat.{ExtendedNat}
+use Rattle.flow_layouts.specs.declared.extended.ExtendedVlanTunnel.{ExtendedVlanTunnel}
+use Rattle.flow_layouts.specs.declared.mpls.ExtendedMpls.{ExtendedMpls}
+use Rattle.flow_layouts.specs.declared.mpls.ExtendedMplsTunnel.{ExtendedMplsTunnel}
+use Rattle.flow_layouts.specs.declared.mpls.ExtendedMplsVc.{ExtendedMplsVc}
+use Rattle.flow_layouts.specs.declared.mpls.ExtendedMplsFec.{ExtendedMplsFec}
+use Rattle.flow_layouts.specs.declared.mpls.ExtendedMplsLvpFec.{ExtendedMplsLvpFec}
+use Rattle.flow_layouts.specs.declared.wireless.Extended80211Payload.{Extended80211Payload}
+use Rattle.flow_layouts.specs.declared.wireless.Extended80211Rx.{Extended80211Rx}
+use Rattle.flow_layouts.specs.declared.wireless.Extended80211Tx.{Extended80211Tx}
+use Rattle.flow_layouts.specs.declared.wireless.Extended80211Aggregation.{Extended80211Aggregation}
 use Rattle.layout.specs.Shown.{a-segment}
-use Rattle.flows.specs.Shown.{sampled-header, sampled-ethernet, sampled-ipv4, sampled-ipv6, extended-switch, extended-router, extended-gateway, extended-user, extended-url, extended-mpls, extended-nat, extended-mpls-tunnel, extended-mpls-vc, extended-mpls-fec, extended-mpls-lvp-fec, extended-vlan-tunnel, extended-80211-payload, extended-80211-rx, extended-80211-tx, extended-80211-aggregation}
+use Rattle.flow_layouts.specs.Shown.{sampled-header, sampled-ethernet, sampled-ipv4, sampled-ipv6, extended-switch, extended-router, extended-gateway, extended-user, extended-url, extended-mpls, extended-nat, extended-mpls-tunnel, extended-mpls-vc, extended-mpls-fec, extended-mpls-lvp-fec, extended-vlan-tunnel, extended-80211-payload, extended-80211-rx, extended-80211-tx, extended-80211-aggregation}
 use Rattle.samples.specs.declared.fields.FlowSample.{FlowSample}
 use Rattle.samples.specs.declared.fields.CountersSample.{CountersSample}
 use Rattle.samples.specs.declared.fields.FlowSampleExpanded.{FlowSampleExpanded}

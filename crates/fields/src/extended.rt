@@ -1,16 +1,16 @@
 // What is known of a packet beside its bytes: formats 1001 to 1005, 1007 and 1012.
 ghost use mathlib.Core.Path.{_≡_};
 ghost use Rattle.xdr.specs.Shown.{answer-of};
-ghost use Rattle.flows.specs.Shown.{extended-switch, extended-router, extended-gateway, extended-user, extended-url, extended-nat, extended-vlan-tunnel};
+ghost use Rattle.flow_layouts.specs.Shown.{extended-switch, extended-router, extended-gateway, extended-user, extended-url, extended-nat, extended-vlan-tunnel};
 ghost use Rattle.fields.specs.Shown.{read-of};
 use crate::ask::ask;
-use flows::extended::ExtendedGateway;
-use flows::extended::ExtendedNat;
-use flows::extended::ExtendedRouter;
-use flows::extended::ExtendedSwitch;
-use flows::extended::ExtendedUrl;
-use flows::extended::ExtendedUser;
-use flows::extended::ExtendedVlanTunnel;
+use flow_layouts::extended::ExtendedGateway;
+use flow_layouts::extended::ExtendedNat;
+use flow_layouts::extended::ExtendedRouter;
+use flow_layouts::extended::ExtendedSwitch;
+use flow_layouts::extended::ExtendedUrl;
+use flow_layouts::extended::ExtendedUser;
+use flow_layouts::extended::ExtendedVlanTunnel;
 use store::Descriptor;
 
 pub fn extended_switch(s: &[u8], d: Descriptor) -> ExtendedSwitch

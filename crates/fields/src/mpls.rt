@@ -1,14 +1,14 @@
 // MPLS: formats 1006 and 1008 to 1011.
 ghost use mathlib.Core.Path.{_≡_};
 ghost use Rattle.xdr.specs.Shown.{answer-of};
-ghost use Rattle.flows.specs.Shown.{extended-mpls, extended-mpls-tunnel, extended-mpls-vc, extended-mpls-fec, extended-mpls-lvp-fec};
+ghost use Rattle.flow_layouts.specs.Shown.{extended-mpls, extended-mpls-tunnel, extended-mpls-vc, extended-mpls-fec, extended-mpls-lvp-fec};
 ghost use Rattle.fields.specs.Shown.{read-of};
 use crate::ask::ask;
-use flows::mpls::ExtendedMpls;
-use flows::mpls::ExtendedMplsFec;
-use flows::mpls::ExtendedMplsLvpFec;
-use flows::mpls::ExtendedMplsTunnel;
-use flows::mpls::ExtendedMplsVc;
+use flow_layouts::mpls::ExtendedMpls;
+use flow_layouts::mpls::ExtendedMplsFec;
+use flow_layouts::mpls::ExtendedMplsLvpFec;
+use flow_layouts::mpls::ExtendedMplsTunnel;
+use flow_layouts::mpls::ExtendedMplsVc;
 use store::Descriptor;
 
 pub fn extended_mpls(s: &[u8], d: Descriptor) -> ExtendedMpls

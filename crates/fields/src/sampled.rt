@@ -1,13 +1,13 @@
 // What was sampled: formats 1 to 4.
 ghost use mathlib.Core.Path.{_≡_};
 ghost use Rattle.xdr.specs.Shown.{answer-of};
-ghost use Rattle.flows.specs.Shown.{sampled-header, sampled-ethernet, sampled-ipv4, sampled-ipv6};
+ghost use Rattle.flow_layouts.specs.Shown.{sampled-header, sampled-ethernet, sampled-ipv4, sampled-ipv6};
 ghost use Rattle.fields.specs.Shown.{read-of};
 use crate::ask::ask;
-use flows::sampled::SampledEthernet;
-use flows::sampled::SampledHeader;
-use flows::sampled::SampledIpv4;
-use flows::sampled::SampledIpv6;
+use flow_layouts::sampled::SampledEthernet;
+use flow_layouts::sampled::SampledHeader;
+use flow_layouts::sampled::SampledIpv4;
+use flow_layouts::sampled::SampledIpv6;
 use store::Descriptor;
 
 pub fn sampled_header(s: &[u8], d: Descriptor) -> SampledHeader

@@ -1,13 +1,13 @@
 // 802.11: formats 1013 to 1016.
 ghost use mathlib.Core.Path.{_≡_};
 ghost use Rattle.xdr.specs.Shown.{answer-of};
-ghost use Rattle.flows.specs.Shown.{extended-80211-payload, extended-80211-rx, extended-80211-tx, extended-80211-aggregation};
+ghost use Rattle.flow_layouts.specs.Shown.{extended-80211-payload, extended-80211-rx, extended-80211-tx, extended-80211-aggregation};
 ghost use Rattle.fields.specs.Shown.{read-of};
 use crate::ask::ask;
-use flows::wireless::Extended80211Aggregation;
-use flows::wireless::Extended80211Payload;
-use flows::wireless::Extended80211Rx;
-use flows::wireless::Extended80211Tx;
+use flow_layouts::wireless::Extended80211Aggregation;
+use flow_layouts::wireless::Extended80211Payload;
+use flow_layouts::wireless::Extended80211Rx;
+use flow_layouts::wireless::Extended80211Tx;
 use store::Descriptor;
 
 pub fn extended_80211_payload(s: &[u8], d: Descriptor) -> Extended80211Payload

@@ -33,7 +33,7 @@ use Rattle.layout.specs.Scanned.{Scan, frame-out}
 use Rattle.layout.specs.Chain.{Then, goes, Ends, ends}
 use Rattle.flows.specs.Passing.{Passes, Passes-record}
 use Rattle.layout.proofs.Chain.{both, item-goes, unsure}
-use Rattle.flows.proofs.Formats.{arm}
+use Rattle.flow_layouts.proofs.Formats.{arm}
 use Rattle.layout.proofs.Protocols.{known-protocol}
 use Rattle.layout.proofs.Scan.{scan-inside, scan-short, scan-on, scan-turn, frame-ends, frame-fits, frame-part, frame-scan}
 use Rattle.flows.proofs.Scan.{flow-thrift, record-got, data-got}

@@ -27,9 +27,9 @@ use Rattle.flows.proofs.records.+aggregation+flow_data+flow_record+flow
 use Rattle.flows.proofs.records.pdus.Reads as pdus
 use Rattle.flows.proofs.records.pdus.Kinds as pdus-kinds
 use Rattle.flows.proofs.records.+aggregation+flow_data+flow_record+flow_records+one_pdu+pdus.Lts-pdus as pdus-lts
-use Rattle.flows.proofs.data.pass.Reads as pass-reads
+use Rattle.flow_layouts.proofs.data.pass.Reads as pass-reads
 use Rattle.layout.proofs.frames.Frame.parse.Reads as frames-Frame-parse-reads
-use Rattle.flows.proofs.wireless.Extended80211Aggregation.parse.Reads as wireless-Extended80211Aggregation-parse-reads
+use Rattle.flow_layouts.proofs.wireless.Extended80211Aggregation.parse.Reads as wireless-Extended80211Aggregation-parse-reads
 use Rattle.xdr.proofs.Cursor.read_u32.Reads as read-u32-reads
 use Rattle.xdr.proofs.Cursor.refusal.Reads as refusal-reads
 use Rattle.xdr.proofs.Outcome.passed.Reads as passed-reads

@@ -1,0 +1,20 @@
+use Rattle.reading.specs.Layout.{flows}
+use Rattle.reading.specs.Answer.{layout-of}
+use Rattle.layout.proofs.Chain.{steps, rows}
+use Rattle.flow_layouts.proofs.extended.ExtendedUrl.parse.Statement.{statement}
+use Rattle.flow_layouts.proofs.extended.ExtendedUrl.parse.Tie as tie
+
+pub parse-spec : {M : Type 1} → statement M
+unfolding layout-of flows
+parse-spec =
+    tie.close
+    (tie.spec
+    (λ c κs. search steps)  -- word-requires
+    (λ c κs. search steps)  -- range-requires
+    (λ c κs. search steps)  -- range-requires-2
+    (λ c. search steps)  -- enum-known-passed
+    (λ c. search steps)  -- enum-known-passed-2
+    (λ c κs. search steps)  -- accepted-requires
+    (λ c. search rows)  -- returns
+    (λ c. search rows)  -- returns-2
+    )

@@ -1,0 +1,30 @@
+use Rattle.reading.specs.Layout.{flows}
+use Rattle.reading.specs.Answer.{layout-of}
+use Rattle.layout.proofs.Chain.{steps, places, rows}
+use Rattle.flow_layouts.proofs.sampled.SampledIpv6.parse.Statement.{statement}
+use Rattle.flow_layouts.proofs.sampled.SampledIpv6.parse.Tie as tie
+
+pub parse-spec : {M : Type 1} → statement M
+unfolding layout-of flows
+parse-spec =
+    tie.close
+    (tie.spec
+    (λ c κs. search steps)  -- words-requires
+    (λ c κs. search steps)  -- sixteen-requires
+    (λ c κs. search steps)  -- sixteen-requires-2
+    (λ c κs. search steps)  -- words-requires-2
+    (λ c. search steps)  -- enum-known-passed
+    (λ c κs. search steps)  -- none-requires
+    (λ c. search steps)  -- enum-known-passed-2
+    (λ c κs. search places)  -- load-words-requires
+    (λ c κs. search places)  -- load-words-requires-2
+    (λ c κs. search steps)  -- accepted-requires
+    (λ c. search steps)  -- array-read-t23
+    (λ c. search steps)  -- array-read-t26
+    (λ c. search steps)  -- array-read-t29
+    (λ c. search steps)  -- array-read-t32
+    (λ c. search steps)  -- array-read-t35
+    (λ c. search steps)  -- array-read-t38
+    (λ c. search rows)  -- returns
+    (λ c. search rows)  -- returns-2
+    )

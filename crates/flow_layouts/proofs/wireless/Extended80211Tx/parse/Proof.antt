@@ -1,0 +1,26 @@
+use Rattle.reading.specs.Layout.{flows}
+use Rattle.reading.specs.Answer.{layout-of}
+use Rattle.layout.proofs.Chain.{steps, rows}
+use Rattle.flow_layouts.proofs.wireless.Extended80211Tx.parse.Statement.{statement}
+use Rattle.flow_layouts.proofs.wireless.Extended80211Tx.parse.Tie as tie
+
+pub parse-spec : {M : Type 1} → statement M
+unfolding layout-of flows
+parse-spec =
+    tie.close
+    (tie.spec
+    (λ c κs. search steps)  -- parse-requires
+    (λ c κs. search steps)  -- long-requires
+    (λ c κs. search steps)  -- word-requires
+    (λ c. search steps)  -- enum-known-passed
+    (λ c κs. search steps)  -- none-requires
+    (λ c. search steps)  -- enum-known-passed-2
+    (λ c κs. search steps)  -- accepted-requires
+    (λ c. search steps)  -- array-read-t18
+    (λ c. search steps)  -- array-read-t21
+    (λ c. search steps)  -- array-read-t24
+    (λ c. search steps)  -- array-read-t27
+    (λ c. search steps)  -- array-read-t30
+    (λ c. search rows)  -- returns
+    (λ c. search rows)  -- returns-2
+    )

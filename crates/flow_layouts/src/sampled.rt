@@ -1,0 +1,220 @@
+// What was sampled: the packet's first bytes, or the fields of its header.
+ghost use mathlib.Core.Path.{_≡_};
+ghost use mathlib.Core.List.{[], _∷_, _++_};
+ghost use Rattle.reading.specs.Script.{number, sixteen};
+ghost use Rattle.reading.specs.Layout.{bytes, protocol, words};
+ghost use Rattle.reading.specs.Values.{zeros};
+ghost use Rattle.reading.specs.Answer.{layout-of};
+ghost use Rattle.xdr.specs.Shown.{Inside, Answers, refused};
+ghost use Rattle.layout.specs.Chain.{Within, Then};
+ghost use Rattle.flow_layouts.specs.Shown.{sampled-header, sampled-ethernet, sampled-ipv4, sampled-ipv6};
+use layout::field;
+use xdr::Outcome;
+use xdr::Passed;
+use xdr::Span;
+
+// Format 1: the packet's first bytes, by the protocol of its header.
+#[repr(C)]
+pub struct SampledHeader {
+    pub outcome: Outcome,
+    pub protocol: u32,
+    pub frame_length: u32,
+    pub stripped: u32,
+    pub header: Span,
+}
+
+impl SampledHeader {
+    pub fn parse(p: Passed, s: &[u8]) -> SampledHeader
+        requires { ⌜ Within (now s) p ⌝ }
+        ensures { λ r. ⌜ Answers (layout-of 2 1) (now (s .entry)) p (r .outcome) (sampled-header r) ⌝ }
+    {
+        let kind = field::protocol(p, s);
+        let passed = kind.passed;
+        let row = field::words(passed, s, 2);
+        let passed = row.passed;
+        let bytes = field::opaque(passed, s);
+        let passed = bytes.passed;
+        let header = bytes.span;
+        match passed {
+            Passed::Stop(r) => SampledHeader {
+                outcome: r,
+                protocol: 0,
+                frame_length: 0,
+                stripped: 0,
+                header: Span { start: 0, count: 0 },
+            },
+            Passed::Got(d) => {
+                let sizes = field::load_words(s, row.at, 2);
+                SampledHeader {
+                    outcome: d.accepted(),
+                    protocol: kind.value,
+                    frame_length: sizes[0],
+                    stripped: sizes[1],
+                    header: header,
+                }
+            }
+        }
+    }
+}
+
+// Format 2: an Ethernet frame.
+#[repr(C)]
+pub struct SampledEthernet {
+    pub outcome: Outcome,
+    pub length: u32,
+    pub src_mac: [u8; 6],
+    pub dst_mac: [u8; 6],
+    pub eth_type: u32,
+}
+
+impl SampledEthernet {
+    pub fn parse(p: Passed, s: &[u8]) -> SampledEthernet
+        requires { ⌜ Within (now s) p ⌝ }
+        ensures { λ r. ⌜ Answers (layout-of 2 2) (now (s .entry)) p (r .outcome) (sampled-ethernet r) ⌝ }
+    {
+        let size = field::word(p, s);
+        let passed = size.passed;
+        let src = field::six(passed, s, false);
+        let passed = src.passed;
+        let src_mac = src.bytes;
+        let dst = field::six(passed, s, false);
+        let passed = dst.passed;
+        let dst_mac = dst.bytes;
+        let kind = field::word(passed, s);
+        let passed = kind.passed;
+        match passed {
+            Passed::Stop(r) => SampledEthernet {
+                outcome: r,
+                length: 0,
+                src_mac: [0u8; 6],
+                dst_mac: [0u8; 6],
+                eth_type: 0,
+            },
+            Passed::Got(d) => SampledEthernet {
+                outcome: d.accepted(),
+                length: size.value,
+                src_mac: src_mac,
+                dst_mac: dst_mac,
+                eth_type: kind.value,
+            },
+        }
+    }
+}
+
+// Format 3: an IPv4 packet.
+#[repr(C)]
+pub struct SampledIpv4 {
+    pub outcome: Outcome,
+    pub length: u32,
+    pub protocol: u32,
+    pub src_ip: u32,
+    pub dst_ip: u32,
+    pub src_port: u32,
+    pub dst_port: u32,
+    pub tcp_flags: u32,
+    pub tos: u32,
+}
+
+impl SampledIpv4 {
+    pub fn parse(p: Passed, s: &[u8]) -> SampledIpv4
+        requires { ⌜ Within (now s) p ⌝ }
+        ensures { λ r. ⌜ Answers (layout-of 2 3) (now (s .entry)) p (r .outcome) (sampled-ipv4 r) ⌝ }
+    {
+        let row = field::words(p, s, 8);
+        let passed = row.passed;
+        match passed {
+            Passed::Stop(r) => SampledIpv4 {
+                outcome: r,
+                length: 0,
+                protocol: 0,
+                src_ip: 0,
+                dst_ip: 0,
+                src_port: 0,
+                dst_port: 0,
+                tcp_flags: 0,
+                tos: 0,
+            },
+            Passed::Got(d) => {
+                let words = field::load_words(s, row.at, 8);
+                SampledIpv4 {
+                    outcome: d.accepted(),
+                    length: words[0],
+                    protocol: words[1],
+                    src_ip: words[2],
+                    dst_ip: words[3],
+                    src_port: words[4],
+                    dst_port: words[5],
+                    tcp_flags: words[6],
+                    tos: words[7],
+                }
+            }
+        }
+    }
+}
+
+// Format 4: an IPv6 packet.
+#[repr(C)]
+pub struct SampledIpv6 {
+    pub outcome: Outcome,
+    pub length: u32,
+    pub protocol: u32,
+    pub src_ip: [u8; 16],
+    pub dst_ip: [u8; 16],
+    pub src_port: u32,
+    pub dst_port: u32,
+    pub tcp_flags: u32,
+    pub priority: u32,
+}
+
+impl SampledIpv6 {
+    fn none(r: Outcome) -> SampledIpv6
+        ensures { λ a. ⌜ (a .outcome ≡ r) × (sampled-ipv6 a ≡ zeros (words 2 ++ bytes sixteen ∷ bytes sixteen ∷ words 4)) ⌝ }
+    {
+        SampledIpv6 {
+            outcome: r,
+            length: 0,
+            protocol: 0,
+            src_ip: [0u8; 16],
+            dst_ip: [0u8; 16],
+            src_port: 0,
+            dst_port: 0,
+            tcp_flags: 0,
+            priority: 0,
+        }
+    }
+
+    pub fn parse(p: Passed, s: &[u8]) -> SampledIpv6
+        requires { ⌜ Within (now s) p ⌝ }
+        ensures { λ r. ⌜ Answers (layout-of 2 4) (now (s .entry)) p (r .outcome) (sampled-ipv6 r) ⌝ }
+    {
+        let row = field::words(p, s, 2);
+        let passed = row.passed;
+        let head_at = row.at;
+        let src = field::sixteen(passed, s);
+        let passed = src.passed;
+        let src_ip = src.bytes;
+        let dst = field::sixteen(passed, s);
+        let passed = dst.passed;
+        let dst_ip = dst.bytes;
+        let row = field::words(passed, s, 4);
+        let passed = row.passed;
+        match passed {
+            Passed::Stop(r) => SampledIpv6::none(r),
+            Passed::Got(d) => {
+                let head = field::load_words(s, head_at, 2);
+                let tail = field::load_words(s, row.at, 4);
+                SampledIpv6 {
+                    outcome: d.accepted(),
+                    length: head[0],
+                    protocol: head[1],
+                    src_ip: src_ip,
+                    dst_ip: dst_ip,
+                    src_port: tail[0],
+                    dst_port: tail[1],
+                    tcp_flags: tail[2],
+                    priority: tail[3],
+                }
+            }
+        }
+    }
+}
