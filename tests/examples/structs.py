@@ -149,7 +149,7 @@ def datagram_text():
 
 
 def fields_text():
-    structs = [Struct('listed-%d' % i, 'Listed', 'parts', 'of-word (listed listed-%d)' % i, 'the word with index %d of a list of two' % i,
+    structs = [Struct('listed-%d' % i, 'Listed', 'lists', 'of-word (listed listed-%d)' % i, 'the word with index %d of a list of two' % i,
                       literal([('present', str(there).lower()), ('value', number(value))])) for i, there, value in LISTED]
     uses = '''use Rattle.reading.specs.Answer.{read}
 use Rattle.store.specs.declared.Descriptor.{Descriptor}

@@ -41,8 +41,8 @@ module _ (κs s store : _) where
 pub parse-settled : (κs p s : _) → Settles (call.header.Header.parse.Reads.Learnt κs (p, (s, tt))) (λ r. answer-of (r .outcome) (header-fields r)) (answered (read-on (layout-of 0 0) (now s) p))
 parse-settled κs p s = settled-by header-lossless (λ r e h. h .is)
 
-pub judge-settled : (κs s c count : _) → Settles (call.one.judge.Reads.Learnt κs (s, (c, (count, tt)))) scanned-out (counted count (follow datagram (now s) (place c)))
-judge-settled κs s c count = settled scanned-lossless
+pub scan-datagram-settled : (κs s c count : _) → Settles (call.one.scan_datagram.Reads.Learnt κs (s, (c, (count, tt)))) scanned-out (counted count (follow datagram (now s) (place c)))
+scan-datagram-settled κs s c count = settled scanned-lossless
 
 pub put-datagram-settled : (κs s at store base : _) → Settles
     (λ (r : Written × List ℕ) e. call.one.put_datagram.Reads.Learnt κs (s, (at, (store, (base, tt)))) (r .0) (e, (at, (at-last store (r .1), (base, tt)))))

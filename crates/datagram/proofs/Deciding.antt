@@ -36,26 +36,26 @@ use Rattle.store.proofs.Placing.{a-put, store-is, put-kept}
 use Rattle.datagram.specs.declared.decode.Answer.{Answer}
 use Rattle.datagram.specs.declared.decode.Decoded.{Decoded}
 use Rattle.datagram.specs.Shown.{root, decoded, Refuses, Is-read, values-of, Accepts, ran}
-use Rattle.datagram.proofs.Judging.{start-of, begun, not-begun}
+use Rattle.datagram.proofs.OneDatagram.{start-of, begun, not-begun}
 
 -- the answer to a reading o
 abbrev answered : (List Value → answer.Header) → Out Found → (s w : List ℕ) → answer.Answer
 answered head o s w = limited s (stored head o w) (refused 1 0 0 0 w)
 
--- a reading that was judged whole, up to e, with k descriptors
+-- a reading that was scanned whole, up to e, with k descriptors
 record Whole (o : Out Found) (e : Cursor) (k : ℕ) : Type 0 where
   found : Found
   is : o ≡ got found (place e)
   count : k ≡ size (found .ranges)
 
-judged-whole : (o : Out Found) (e : Cursor) (k : ℕ) → got k (place e) ≡ counted 0 o → Whole o e k
+scanned-whole : (o : Out Found) (e : Cursor) (k : ℕ) → got k (place e) ≡ counted 0 o → Whole o e k
 unfolding counted
-judged-whole (got a p) e k u =
+scanned-whole (got a p) e k u =
     let v : k ≡ 0 + size (a .ranges) = cc in
     let x : k ≡ size (a .ranges) = omega (arith, v) in
     let y : place e ≡ p = cc in
     record { found = a; is = ap (λ (r : Place). got a r) (sym y); count = x }
-judged-whole (stop c a n) e k u = never (sym u)
+scanned-whole (stop c a n) e k u = never (sym u)
 
 module _ (head : List Value → answer.Header) (o : Out Found) (s w : List ℕ) where
   beyond : 16777216 < length s → refused 1 0 0 0 w ≡ answered head o s w
@@ -134,7 +134,7 @@ inside-start s = record { inside = omega arith; counted = omega arith }
 -- its header, once it is known to be accepted
 module _ (s : List ℕ) {e : Cursor} {k : ℕ} (q : Is-read s e k) where
   known : Whole (follow datagram s (from 0)) e k
-  known = judged-whole (follow datagram s (from 0)) e k (q .is)
+  known = scanned-whole (follow datagram s (from 0)) e k (q .is)
 
   head-values : {d : Cursor} {vs : List Value} → Then header s (passed.Got (start-of 0)) (passed.Got d) vs → values-of (follow datagram s (from 0)) ≡ vs
   unfolding values-of
@@ -226,7 +226,7 @@ module _ (s w : List ℕ) where
 
     module _ {e : Cursor} {k : ℕ} (q : m ≡ scanned.Got e k) where
       run-there : Whole (run-from s (from 0)) e k
-      run-there = judged-whole (run-from s (from 0)) e k (rw q at i)
+      run-there = scanned-whole (run-from s (from 0)) e k (rw q at i)
 
       pub run-no-room : room w < k → refused 9 0 (e .steps) k w ≡ run s w
       unfolding run run-from

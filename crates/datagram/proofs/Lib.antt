@@ -1,6 +1,6 @@
 pub mod Version
 pub mod Deciding
-pub mod Judging
+pub mod OneDatagram
 pub mod Running
 pub mod Lossless
 pub mod Contracts

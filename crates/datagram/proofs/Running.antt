@@ -37,12 +37,12 @@ module _ (s : List ℕ) (c : Cursor) (k : ℕ) {j : Scanned} (i : scanned-out j 
     outcome : got m (place d) ≡ counted k (follow datagram s (place c))
     outcome = rw w at i
 
-    pub judge-on : Scan s c k → Scan s d m
-    judge-on g = scan-on datagram s c k i w g (record { is = thrifty-datagram 8 })
+    pub scanned-on : Scan s c k → Scan s d m
+    scanned-on g = scan-on datagram s c k i w g (record { is = thrifty-datagram 8 })
 
-    pub judge-less : (t : ℕ) → Scan s c k → c .at < length s → length s - c .at ≡ t → length s - d .at < t
+    pub scanned-less : (t : ℕ) → Scan s c k → c .at < length s → length s - c .at ≡ t → length s - d .at < t
     unfolding counted
-    judge-less t g h e = go (follow datagram s (place c)) refl outcome
+    scanned-less t g h e = go (follow datagram s (place c)) refl outcome
       where
         go : (o : Out Found) → follow datagram s (place c) ≡ o → got m (place d) ≡ counted k o → length s - d .at < t
         go (got a q) f u =
@@ -52,22 +52,22 @@ module _ (s : List ℕ) (c : Cursor) (k : ℕ) {j : Scanned} (i : scanned-out j 
             omega (arith, z .0, y, e, h)
         go (stop x a n) f u = never (sym u)
 
-    pub judge-turn : {t : Out ℕ} → counted k (run-from s (place c)) ≡ t → c .at < length s → counted m (run-from s (place d)) ≡ t
-    judge-turn e h = sym (run-got s (place c) k h (sym outcome)) ∙ e
+    pub scanned-turn : {t : Out ℕ} → counted k (run-from s (place c)) ≡ t → c .at < length s → counted m (run-from s (place d)) ≡ t
+    scanned-turn e h = sym (run-got s (place c) k h (sym outcome)) ∙ e
 
   module _ {x : Outcome} (w : j ≡ scanned.Stop x) {t : Out ℕ} (e : counted k (run-from s (place c)) ≡ t) (h : c .at < length s) where
     refused : refusal x ≡ counted k (follow datagram s (place c))
     refused = rw w at i
 
-    pub judge-ends : x .code ≡ 2 → got k (record { at = c .at; steps = x .steps }) ≡ t
-    judge-ends z = sym (run-ends s (place c) k h (sym refused) z) ∙ e
+    pub scanned-ends : x .code ≡ 2 → got k (record { at = c .at; steps = x .steps }) ≡ t
+    scanned-ends z = sym (run-ends s (place c) k h (sym refused) z) ∙ e
 
-    pub judge-stops : (x .code ≡ 2 → ⊥) → refusal x ≡ t
-    judge-stops z = sym (run-stops s (place c) k h (sym refused) z) ∙ e
+    pub scanned-stops : (x .code ≡ 2 → ⊥) → refusal x ≡ t
+    scanned-stops z = sym (run-stops s (place c) k h (sym refused) z) ∙ e
 
-pub judge-over : {t : Out ℕ} (s : List ℕ) (c : Cursor) (k : ℕ) → counted k (run-from s (place c)) ≡ t → length s ≤ c .at → got k (place c) ≡ t
+pub scanned-over : {t : Out ℕ} (s : List ℕ) (c : Cursor) (k : ℕ) → counted k (run-from s (place c)) ≡ t → length s ≤ c .at → got k (place c) ≡ t
 unfolding counted size
-judge-over s c k e h =
+scanned-over s c k e h =
     let z : counted k (run-from s (place c)) ≡ got (k + 0) (place c) = ap (counted k) (run-over s (place c) h) in
     let y : k ≡ k + 0 = omega arith in
     ap (λ (n : ℕ). got n (place c)) y ∙ sym z ∙ e
@@ -165,12 +165,12 @@ module _ (s l : List ℕ) (cur end w : ℕ) (g : Ready s l (pen-at w) (run-from 
       next-placed {t} u = rw here (two-placed 0 nobody w l (ranges-of (follow datagram s (from cur))) (ranges-of (run-from s (from (end-of (follow datagram s (from cur)))))) refl (parts .end) (parts .ranges) next (store-is (pen-at w) _ l e)) ∙ u
 
 pub ruleset running = (
-  judge-on,
-  judge-less,
-  judge-turn,
-  judge-ends,
-  judge-stops,
-  judge-over,
+  scanned-on,
+  scanned-less,
+  scanned-turn,
+  scanned-ends,
+  scanned-stops,
+  scanned-over,
   part-start,
   part-index,
   part-ready,

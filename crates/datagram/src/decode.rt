@@ -3,8 +3,8 @@ ghost use mathlib.Core.Path.{_≡_};
 ghost use Rattle.reading.specs.Answer.{one};
 ghost use Rattle.datagram.specs.Shown.{decoded, Refuses, Is-read, Accepts};
 use crate::header::version_at;
-use crate::one::judge;
 use crate::one::put_datagram;
+use crate::one::scan_datagram;
 use layout::field;
 use layout::frames::Scanned;
 use store::DESCRIPTOR_WORDS;
@@ -94,7 +94,7 @@ pub fn decode(s: &[u8], store: &mut [u32]) -> Decoded
     if 16777216 < s.len() {
         return Decoded::refused(1, 0, 0, 0);
     }
-    match judge(s, Cursor { at: 0, steps: 0 }, 0) {
+    match scan_datagram(s, Cursor { at: 0, steps: 0 }, 0) {
         Scanned::Stop(r) => Decoded::refused(r.code, r.at, r.steps, 0),
         Scanned::Got(e, k) => {
             if store.len() / DESCRIPTOR_WORDS < k {

@@ -1,4 +1,4 @@
-// One datagram: judged in a first pass, written in a second.
+// One datagram: scanned in a first pass, put into the store in a second.
 ghost use mathlib.Core.Path.{_≡_};
 ghost use Prim.Native.Nat.{_+_, _≤_};
 ghost use lib.ListN.{length};
@@ -44,7 +44,7 @@ fn samples_behind(s: &[u8], row: WordsAt, count: usize) -> Scanned
 }
 
 // The first pass, on top of `count` descriptors.
-pub fn judge(s: &[u8], c: Cursor, count: usize) -> Scanned
+pub fn scan_datagram(s: &[u8], c: Cursor, count: usize) -> Scanned
     requires { ⌜ Scan (now s) c count ⌝ }
     ensures { λ r. ⌜ scanned-out r ≡ counted count (follow datagram (now (s .entry)) (place c)) ⌝ }
 {

@@ -13,8 +13,8 @@ ghost use Rattle.layout.specs.Scanned.{scanned-out};
 ghost use Rattle.store.specs.Written.{Ready, written, placed};
 ghost use Rattle.datagram.specs.Shown.{root, pen-at, ran};
 use crate::decode::Answer;
-use crate::one::judge;
 use crate::one::put_datagram;
+use crate::one::scan_datagram;
 use layout::frames::Scanned;
 use store::DESCRIPTOR_WORDS;
 use store::Written;
@@ -22,14 +22,14 @@ use store::index_at;
 use xdr::Cursor;
 
 // The first pass. Code 2 ends the run where the datagram that it stops began.
-fn judge_run(s: &[u8]) -> Scanned
+fn scan_run(s: &[u8]) -> Scanned
     requires { ⌜ length (now s) ≤ 16777216 ⌝ }
     ensures { λ r. ⌜ scanned-out r ≡ counted 0 (run-from (now (s .entry)) (from 0)) ⌝ }
 {
     let mut cur = Cursor { at: 0, steps: 0 };
     let mut found = 0;
     while cur.at < s.len() {
-        match judge(s, cur, found) {
+        match scan_datagram(s, cur, found) {
             Scanned::Stop(r) => {
                 if r.code == 2 {
                     return Scanned::Got(
@@ -91,7 +91,7 @@ pub fn decode_run(s: &[u8], store: &mut [u32]) -> Answer
             needed: 0,
         };
     }
-    match judge_run(s) {
+    match scan_run(s) {
         Scanned::Stop(r) => Answer {
             code: r.code,
             at: r.at,

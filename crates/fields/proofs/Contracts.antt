@@ -19,22 +19,22 @@ use Rattle.fields.proofs as call
 -- ---- a descriptor's fields
 
 module _ (κs s d : _) where
-  pub header-settled : Settles (call.headers.header.Reads.Learnt κs (s, (d, tt))) (λ r. answer-of (r .outcome) (header-fields r)) (read-of 0 0 (now s) d)
+  pub header-settled : Settles (call.heads.header.Reads.Learnt κs (s, (d, tt))) (λ r. answer-of (r .outcome) (header-fields r)) (read-of 0 0 (now s) d)
   header-settled = settled header-lossless
 
-  pub flow-sample-settled : Settles (call.sample.flow_sample.Reads.Learnt κs (s, (d, tt))) (λ r. answer-of (r .outcome) (flow-sample r)) (read-of 1 1 (now s) d)
+  pub flow-sample-settled : Settles (call.heads.flow_sample.Reads.Learnt κs (s, (d, tt))) (λ r. answer-of (r .outcome) (flow-sample r)) (read-of 1 1 (now s) d)
   flow-sample-settled = settled flow-sample-lossless
 
-  pub counters-sample-settled : Settles (call.sample.counters_sample.Reads.Learnt κs (s, (d, tt))) (λ r. answer-of (r .outcome) (counters-sample r)) (read-of 1 2 (now s) d)
+  pub counters-sample-settled : Settles (call.heads.counters_sample.Reads.Learnt κs (s, (d, tt))) (λ r. answer-of (r .outcome) (counters-sample r)) (read-of 1 2 (now s) d)
   counters-sample-settled = settled counters-sample-lossless
 
-  pub flow-sample-expanded-settled : Settles (call.sample.flow_sample_expanded.Reads.Learnt κs (s, (d, tt))) (λ r. answer-of (r .outcome) (flow-sample-expanded r)) (read-of 1 3 (now s) d)
+  pub flow-sample-expanded-settled : Settles (call.heads.flow_sample_expanded.Reads.Learnt κs (s, (d, tt))) (λ r. answer-of (r .outcome) (flow-sample-expanded r)) (read-of 1 3 (now s) d)
   flow-sample-expanded-settled = settled flow-sample-expanded-lossless
 
-  pub counters-sample-expanded-settled : Settles (call.sample.counters_sample_expanded.Reads.Learnt κs (s, (d, tt))) (λ r. answer-of (r .outcome) (counters-sample-expanded r)) (read-of 1 4 (now s) d)
+  pub counters-sample-expanded-settled : Settles (call.heads.counters_sample_expanded.Reads.Learnt κs (s, (d, tt))) (λ r. answer-of (r .outcome) (counters-sample-expanded r)) (read-of 1 4 (now s) d)
   counters-sample-expanded-settled = settled counters-sample-expanded-lossless
 
-  pub discarded-packet-settled : Settles (call.sample.discarded_packet.Reads.Learnt κs (s, (d, tt))) (λ r. answer-of (r .outcome) (discarded-packet r)) (read-of 1 5 (now s) d)
+  pub discarded-packet-settled : Settles (call.heads.discarded_packet.Reads.Learnt κs (s, (d, tt))) (λ r. answer-of (r .outcome) (discarded-packet r)) (read-of 1 5 (now s) d)
   discarded-packet-settled = settled discarded-packet-lossless
 
   pub sampled-header-settled : Settles (call.sampled.sampled_header.Reads.Learnt κs (s, (d, tt))) (λ r. answer-of (r .outcome) (sampled-header r)) (read-of 2 1 (now s) d)
@@ -100,20 +100,20 @@ module _ (κs s d : _) where
 -- ---- what they lead to
 
 module _ (κs s : _) where
-  pub payload-span-settled : (d : _) → Settles (call.parts.payload_span.Reads.Learnt κs (s, (d, tt))) span (payload-span (now s) (d .start) (d .length))
+  pub payload-span-settled : (d : _) → Settles (call.payload.payload_span.Reads.Learnt κs (s, (d, tt))) span (payload-span (now s) (d .start) (d .length))
   payload-span-settled d = settled span-lossless
 
-  pub whole-span-settled : (d : _) → Settles (call.parts.whole_span.Reads.Learnt κs (s, (d, tt))) span (whole-span (now s) (d .start) (d .length) (d .first))
+  pub whole-span-settled : (d : _) → Settles (call.payload.whole_span.Reads.Learnt κs (s, (d, tt))) span (whole-span (now s) (d .start) (d .length) (d .first))
   whole-span-settled d = settled span-lossless
 
   -- the bytes handed back: where they lie is `payload_span`'s answer
-  pub payload-settled : (d r e : _) → call.parts.payload.Reads.Learnt κs (s, (d, tt)) r e → now r ≡ payload (now s) (d .start) (d .length)
+  pub payload-settled : (d r e : _) → call.payload.payload.Reads.Learnt κs (s, (d, tt)) r e → now r ≡ payload (now s) (d .start) (d .length)
   payload-settled d r e h = h
 
-  pub list-word-settled : (list index : _) → Settles (call.parts.list_word.Reads.Learnt κs (s, (list, (index, tt)))) listed (list-word (now s) (list .start) (list .count) index)
+  pub list-word-settled : (list index : _) → Settles (call.lists.list_word.Reads.Learnt κs (s, (list, (index, tt)))) listed (list-word (now s) (list .start) (list .count) index)
   list-word-settled list index = settled listed-lossless
 
-  pub next-segment-settled : (at : _) → Settles (call.parts.next_segment.Reads.Learnt κs (s, (at, tt))) (λ r. answer-of (r .outcome) (a-segment r)) (segment-at (now s) at)
+  pub next-segment-settled : (at : _) → Settles (call.lists.next_segment.Reads.Learnt κs (s, (at, tt))) (λ r. answer-of (r .outcome) (a-segment r)) (segment-at (now s) at)
   next-segment-settled at = settled segment-lossless
 
 -- ---- what they call

@@ -28,11 +28,11 @@ use Rattle.flow_layouts.specs.declared.wireless.Extended80211Tx.{Extended80211T
 use Rattle.flow_layouts.specs.declared.wireless.Extended80211Aggregation.{Extended80211Aggregation}
 use Rattle.layout.specs.Shown.{a-segment}
 use Rattle.flow_layouts.specs.Shown.{sampled-header, sampled-ethernet, sampled-ipv4, sampled-ipv6, extended-switch, extended-router, extended-gateway, extended-user, extended-url, extended-mpls, extended-nat, extended-mpls-tunnel, extended-mpls-vc, extended-mpls-fec, extended-mpls-lvp-fec, extended-vlan-tunnel, extended-80211-payload, extended-80211-rx, extended-80211-tx, extended-80211-aggregation}
-use Rattle.samples.specs.declared.fields.FlowSample.{FlowSample}
-use Rattle.samples.specs.declared.fields.CountersSample.{CountersSample}
-use Rattle.samples.specs.declared.fields.FlowSampleExpanded.{FlowSampleExpanded}
-use Rattle.samples.specs.declared.fields.CountersSampleExpanded.{CountersSampleExpanded}
-use Rattle.samples.specs.declared.fields.DiscardedPacket.{DiscardedPacket}
+use Rattle.samples.specs.declared.heads.FlowSample.{FlowSample}
+use Rattle.samples.specs.declared.heads.CountersSample.{CountersSample}
+use Rattle.samples.specs.declared.heads.FlowSampleExpanded.{FlowSampleExpanded}
+use Rattle.samples.specs.declared.heads.CountersSampleExpanded.{CountersSampleExpanded}
+use Rattle.samples.specs.declared.heads.DiscardedPacket.{DiscardedPacket}
 use Rattle.samples.specs.Shown.{flow-sample, counters-sample, flow-sample-expanded, counters-sample-expanded, discarded-packet}
 use Rattle.fields.specs.Shown.{listed}
 

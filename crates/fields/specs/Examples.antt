@@ -8,7 +8,7 @@ use Rattle.reading.specs.Examples.{Result, of-word, Example, list-words}
 use Rattle.reading.specs.Answer.{read}
 use Rattle.store.specs.declared.Descriptor.{Descriptor}
 use Rattle.fields.specs.Shown.{read-of, listed}
-use Rattle.fields.specs.declared.parts.Listed.{Listed}
+use Rattle.fields.specs.declared.lists.Listed.{Listed}
 
 -- the word with index 1 of a list of two
 listed-1 : Listed

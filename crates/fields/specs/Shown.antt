@@ -11,7 +11,7 @@ use Rattle.xdr.specs.Shown.{read-on}
 use Rattle.store.specs.declared.Descriptor.{Descriptor}
 use Rattle.layout.specs.Chain.{Within}
 use Rattle.fields.specs.declared.ask.Asked.{Asked}
-use Rattle.fields.specs.declared.parts.Listed.{Listed}
+use Rattle.fields.specs.declared.lists.Listed.{Listed}
 
 -- the fields of this kind and format, of a descriptor
 abbrev pub read-of : (kind format : ℕ) → List ℕ → Descriptor → Fields

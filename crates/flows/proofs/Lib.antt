@@ -1,4 +1,4 @@
-pub mod Scan
+pub mod Scanning
 pub mod Placing
-pub mod Early
+pub mod Ahead
 pub mod Cycles

@@ -11,7 +11,7 @@ use Rattle.xdr.specs.declared.Cursor.{Cursor}
 use Rattle.xdr.specs.declared.Passed.{Passed}
 use Rattle.xdr.specs.declared.Passed.the-variants as passed
 use Rattle.xdr.specs.Shown.{place}
-use Rattle.flows.specs.declared.ahead.Ahead.{Ahead}
+use Rattle.flows.specs.declared.scan_ahead.Ahead.{Ahead}
 use Rattle.store.specs.declared.Pen.{Pen}
 use Rattle.flows.specs.declared.put.Flat.{Flat}
 use Rattle.layout.specs.Scanned.{Scan}

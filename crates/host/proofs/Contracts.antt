@@ -122,16 +122,16 @@ module _ (κs s w : _) where
 -- ---- what they lead to
 
 module _ (κs s : _) where
-  pub payload-settled : (w : _) → Settles (call.parts.latchplume_payload.Reads.Learnt κs (s, (w, tt))) span (payload-span (now s) (getD (now w) 2 0) (getD (now w) 3 0))
+  pub payload-settled : (w : _) → Settles (call.payload.latchplume_payload.Reads.Learnt κs (s, (w, tt))) span (payload-span (now s) (getD (now w) 2 0) (getD (now w) 3 0))
   payload-settled w = settled span-lossless
 
-  pub whole-settled : (w : _) → Settles (call.parts.latchplume_whole.Reads.Learnt κs (s, (w, tt))) span (whole-span (now s) (getD (now w) 2 0) (getD (now w) 3 0) (getD (now w) 6 0))
+  pub whole-settled : (w : _) → Settles (call.payload.latchplume_whole.Reads.Learnt κs (s, (w, tt))) span (whole-span (now s) (getD (now w) 2 0) (getD (now w) 3 0) (getD (now w) 6 0))
   whole-settled w = settled span-lossless
 
-  pub list-word-settled : (start count index : _) → Settles (call.parts.latchplume_list_word.Reads.Learnt κs (s, (start, (count, (index, tt))))) listed (list-word (now s) start count index)
+  pub list-word-settled : (start count index : _) → Settles (call.lists.latchplume_list_word.Reads.Learnt κs (s, (start, (count, (index, tt))))) listed (list-word (now s) start count index)
   list-word-settled start count index = settled listed-lossless
 
-  pub next-segment-settled : (at : _) → Settles (call.parts.latchplume_next_segment.Reads.Learnt κs (s, (at, tt))) (λ r. answer-of (r .outcome) (a-segment r)) (segment-at (now s) at)
+  pub next-segment-settled : (at : _) → Settles (call.lists.latchplume_next_segment.Reads.Learnt κs (s, (at, tt))) (λ r. answer-of (r .outcome) (a-segment r)) (segment-at (now s) at)
   next-segment-settled at = settled segment-lossless
 
 -- ---- what they call

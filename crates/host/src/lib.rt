@@ -8,7 +8,8 @@ use datagram::decode::decode;
 use datagram::run::decode_run;
 
 mod descriptor;
-mod parts;
+mod lists;
+mod payload;
 mod read;
 
 // One datagram.

@@ -9,9 +9,8 @@ use crate::descriptor::Words;
 use crate::descriptor::descriptor;
 use datagram::header::Header;
 use fields::extended;
-use fields::headers;
+use fields::heads;
 use fields::mpls;
-use fields::sample;
 use fields::sampled;
 use fields::wireless;
 use flow_layouts::extended::ExtendedGateway;
@@ -34,38 +33,38 @@ use flow_layouts::wireless::Extended80211Aggregation;
 use flow_layouts::wireless::Extended80211Payload;
 use flow_layouts::wireless::Extended80211Rx;
 use flow_layouts::wireless::Extended80211Tx;
-use samples::fields::CountersSample;
-use samples::fields::CountersSampleExpanded;
-use samples::fields::DiscardedPacket;
-use samples::fields::FlowSample;
-use samples::fields::FlowSampleExpanded;
+use samples::heads::CountersSample;
+use samples::heads::CountersSampleExpanded;
+use samples::heads::DiscardedPacket;
+use samples::heads::FlowSample;
+use samples::heads::FlowSampleExpanded;
 
 #[no_mangle]
 pub extern "C" fn latchplume_read_header(s: &[u8], d: &Words) -> Header
     ensures { λ r. ⌜ answer-of (r .outcome) (header-fields r) ≡ read-at 0 0 (now (s .entry)) (now (d .entry)) ⌝ }
 {
-    headers::header(s, descriptor(d))
+    heads::header(s, descriptor(d))
 }
 
 #[no_mangle]
 pub extern "C" fn latchplume_read_flow_sample(s: &[u8], d: &Words) -> FlowSample
     ensures { λ r. ⌜ answer-of (r .outcome) (flow-sample r) ≡ read-at 1 1 (now (s .entry)) (now (d .entry)) ⌝ }
 {
-    sample::flow_sample(s, descriptor(d))
+    heads::flow_sample(s, descriptor(d))
 }
 
 #[no_mangle]
 pub extern "C" fn latchplume_read_counters_sample(s: &[u8], d: &Words) -> CountersSample
     ensures { λ r. ⌜ answer-of (r .outcome) (counters-sample r) ≡ read-at 1 2 (now (s .entry)) (now (d .entry)) ⌝ }
 {
-    sample::counters_sample(s, descriptor(d))
+    heads::counters_sample(s, descriptor(d))
 }
 
 #[no_mangle]
 pub extern "C" fn latchplume_read_flow_sample_expanded(s: &[u8], d: &Words) -> FlowSampleExpanded
     ensures { λ r. ⌜ answer-of (r .outcome) (flow-sample-expanded r) ≡ read-at 1 3 (now (s .entry)) (now (d .entry)) ⌝ }
 {
-    sample::flow_sample_expanded(s, descriptor(d))
+    heads::flow_sample_expanded(s, descriptor(d))
 }
 
 #[no_mangle]
@@ -75,14 +74,14 @@ pub extern "C" fn latchplume_read_counters_sample_expanded(
 ) -> CountersSampleExpanded
     ensures { λ r. ⌜ answer-of (r .outcome) (counters-sample-expanded r) ≡ read-at 1 4 (now (s .entry)) (now (d .entry)) ⌝ }
 {
-    sample::counters_sample_expanded(s, descriptor(d))
+    heads::counters_sample_expanded(s, descriptor(d))
 }
 
 #[no_mangle]
 pub extern "C" fn latchplume_read_discarded_packet(s: &[u8], d: &Words) -> DiscardedPacket
     ensures { λ r. ⌜ answer-of (r .outcome) (discarded-packet r) ≡ read-at 1 5 (now (s .entry)) (now (d .entry)) ⌝ }
 {
-    sample::discarded_packet(s, descriptor(d))
+    heads::discarded_packet(s, descriptor(d))
 }
 
 #[no_mangle]

@@ -12,11 +12,11 @@ fn main() {
     let mut buffer = [0u8; MOST + 1];
     let n = io::read_full(STDIN_FILENO, &mut buffer);
     if MOST < n {
-        out::text(b"input=toolong\n");
+        printing::text(b"input=toolong\n");
         return;
     }
     let mut store = [0u32; STORE_WORDS];
     let decoded = decode(&buffer[..n], &mut store);
     let answer = decoded.answer;
-    lines::list(answer, &store);
+    listing_lines::list(answer, &store);
 }

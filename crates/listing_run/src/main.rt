@@ -10,14 +10,14 @@ const STORE_WORDS: usize = MOST / 4 * DESCRIPTOR_WORDS;
 
 fn list(s: &[u8], store: &mut [u32]) {
     let answer = decode_run(s, &mut *store);
-    lines::list(answer, &*store);
+    listing_lines::list(answer, &*store);
 }
 
 fn main() {
     let mut buffer = [0u8; MOST + 1];
     let n = io::read_full(STDIN_FILENO, &mut buffer);
     if MOST < n {
-        out::text(b"input=toolong\n");
+        printing::text(b"input=toolong\n");
         return;
     }
     let mut store = [0u32; STORE_WORDS];

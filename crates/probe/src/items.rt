@@ -11,15 +11,15 @@ use xdr::Word;
 
 // The beginning of a line.
 fn name(text: &[u8], s: &[u8], start: usize) {
-    out::text(text);
-    out::text(b" ");
+    printing::text(text);
+    printing::text(b" ");
     print::octets(s);
-    out::number(b" from=", start as u64);
+    printing::number(b" from=", start as u64);
 }
 
 fn bad(s: &[u8], start: usize) {
     name(b"input=bad", s, start);
-    out::text(b"\n");
+    printing::text(b"\n");
 }
 
 fn word(c: Cursor, s: &[u8])
@@ -29,7 +29,7 @@ fn word(c: Cursor, s: &[u8])
     match c.read_u32(s) {
         Word::Stop(r) => print::refusal(r),
         Word::Got(v, d) => {
-            out::number(b" got=", v as u64);
+            printing::number(b" got=", v as u64);
             print::stands(d);
         }
     }
@@ -42,7 +42,7 @@ fn long(c: Cursor, s: &[u8])
     match c.read_u64(s) {
         Long::Stop(r) => print::refusal(r),
         Long::Got(v, d) => {
-            out::number(b" got=", v);
+            printing::number(b" got=", v);
             print::stands(d);
         }
     }
@@ -65,8 +65,8 @@ fn part(p: Part) {
     match p {
         Part::Stop(r) => print::refusal(r),
         Part::Got(x, d) => {
-            out::number(b" start=", x.start as u64);
-            out::number(b" count=", x.count as u64);
+            printing::number(b" start=", x.start as u64);
+            printing::number(b" count=", x.count as u64);
             print::stands(d);
         }
     }
@@ -101,7 +101,7 @@ fn block(text: &[u8], c: Cursor, s: &[u8], w: Width)
     let b = c.read_fixed(s, w);
     let p = b.passed;
     let bytes = b.bytes;
-    out::text(b" bytes=");
+    printing::text(b" bytes=");
     print::octets(&bytes);
     passed(p);
 }
@@ -114,8 +114,8 @@ fn address(c: Cursor, s: &[u8])
     let p = a.passed;
     let address = a.address;
     let bytes = address.bytes;
-    out::number(b" type=", address.kind as u64);
-    out::text(b" bytes=");
+    printing::number(b" type=", address.kind as u64);
+    printing::text(b" bytes=");
     print::octets(&bytes);
     passed(p);
 }
@@ -125,7 +125,7 @@ fn words(c: Cursor, s: &[u8], count: u8)
     requires { ⌜ Inside (now s) c ⌝ }
 {
     name(b"words", s, c.at);
-    out::number(b" words=", count as u64);
+    printing::number(b" words=", count as u64);
     passed(c.read_words(s, count as u32));
 }
 

@@ -21,7 +21,7 @@ fn vector(s: &[u8], at: usize) -> usize
     let size = print::octet(s[at + 3]);
     let from = at + 4;
     if s.len() - from < size {
-        out::text(b"input=cut\n");
+        printing::text(b"input=cut\n");
         return s.len();
     }
     let end = from + size;
@@ -35,7 +35,7 @@ fn vectors(s: &[u8]) {
         at = vector(s, at);
     }
     if at < s.len() {
-        out::text(b"input=cut\n");
+        printing::text(b"input=cut\n");
     }
 }
 

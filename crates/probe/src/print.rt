@@ -24,9 +24,9 @@ fn distance(z: i32) -> u64
 
 // A number with its sign.
 pub fn integer(name: &[u8], z: i32) {
-    out::text(name);
+    printing::text(name);
     if z < 0 {
-        out::text(b"-");
+        printing::text(b"-");
     }
     io::print_decimal(STDOUT_FILENO, distance(z));
 }
@@ -34,7 +34,7 @@ pub fn integer(name: &[u8], z: i32) {
 // Bytes in hexadecimal, and a dash where there are none.
 pub fn octets(s: &[u8]) {
     if s.len() == 0 {
-        out::text(b"-");
+        printing::text(b"-");
     }
     let mut i = 0;
     while i < s.len() {
@@ -45,15 +45,15 @@ pub fn octets(s: &[u8]) {
 
 // The end of a line: where the cursor stands behind what was read.
 pub fn stands(c: Cursor) {
-    out::number(b" at=", c.at as u64);
-    out::number(b" steps=", c.steps as u64);
-    out::text(b"\n");
+    printing::number(b" at=", c.at as u64);
+    printing::number(b" steps=", c.steps as u64);
+    printing::text(b"\n");
 }
 
 // The end of a line: why nothing was read.
 pub fn refusal(r: Outcome) {
-    out::number(b" code=", r.code as u64);
-    out::number(b" at=", r.at as u64);
-    out::number(b" steps=", r.steps as u64);
-    out::text(b"\n");
+    printing::number(b" code=", r.code as u64);
+    printing::number(b" at=", r.at as u64);
+    printing::number(b" steps=", r.steps as u64);
+    printing::text(b"\n");
 }

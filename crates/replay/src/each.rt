@@ -102,7 +102,7 @@ fn line(s: &[u8], store: &[u32], n: usize)
     requires { ⌜ row-words * n ≤ length (now store) ⌝ }
 {
     descriptors(s, store, n);
-    out::text(b"\n");
+    printing::text(b"\n");
 }
 
 // The descriptors that a call leaves: there are some where the code is 0.

@@ -1,11 +1,10 @@
 // The field reading of a datagram's header and of each sample, and their values: in the order of the memo, by their names.
 use crate::values;
-use fields::headers;
-use fields::sample;
+use fields::heads;
 use store::Descriptor;
 
 pub fn header(s: &[u8], d: Descriptor) {
-    let r = headers::header(s, d);
+    let r = heads::header(s, d);
     let o = r.outcome;
     values::outcome(o);
     values::word(r.version);
@@ -18,7 +17,7 @@ pub fn header(s: &[u8], d: Descriptor) {
 }
 
 pub fn flow_sample(s: &[u8], d: Descriptor) {
-    let r = sample::flow_sample(s, d);
+    let r = heads::flow_sample(s, d);
     let o = r.outcome;
     values::outcome(o);
     values::word(r.sequence_number);
@@ -35,7 +34,7 @@ pub fn flow_sample(s: &[u8], d: Descriptor) {
 }
 
 pub fn counters_sample(s: &[u8], d: Descriptor) {
-    let r = sample::counters_sample(s, d);
+    let r = heads::counters_sample(s, d);
     let o = r.outcome;
     values::outcome(o);
     values::word(r.sequence_number);
@@ -45,7 +44,7 @@ pub fn counters_sample(s: &[u8], d: Descriptor) {
 }
 
 pub fn flow_sample_expanded(s: &[u8], d: Descriptor) {
-    let r = sample::flow_sample_expanded(s, d);
+    let r = heads::flow_sample_expanded(s, d);
     let o = r.outcome;
     values::outcome(o);
     values::word(r.sequence_number);
@@ -65,7 +64,7 @@ pub fn flow_sample_expanded(s: &[u8], d: Descriptor) {
 }
 
 pub fn counters_sample_expanded(s: &[u8], d: Descriptor) {
-    let r = sample::counters_sample_expanded(s, d);
+    let r = heads::counters_sample_expanded(s, d);
     let o = r.outcome;
     values::outcome(o);
     values::word(r.sequence_number);
@@ -76,7 +75,7 @@ pub fn counters_sample_expanded(s: &[u8], d: Descriptor) {
 }
 
 pub fn discarded_packet(s: &[u8], d: Descriptor) {
-    let r = sample::discarded_packet(s, d);
+    let r = heads::discarded_packet(s, d);
     let o = r.outcome;
     values::outcome(o);
     values::word(r.sequence_number);

@@ -20,7 +20,7 @@ fn one(s: &[u8], store: &mut [u32]) {
     let decoded = decode(s, &mut *store);
     let answer = decoded.answer;
     let address = decoded.agent_address;
-    out::text(b"one");
+    printing::text(b"one");
     print::answer(answer);
     print::address(address);
     print::word(b",", decoded.sub_agent_id);
@@ -33,14 +33,14 @@ fn one(s: &[u8], store: &mut [u32]) {
 fn with_fields(s: &[u8], store: &mut [u32]) {
     let decoded = decode(s, &mut *store);
     let answer = decoded.answer;
-    out::text(b"fields");
+    printing::text(b"fields");
     print::answer(answer);
     each::left(s, answer, &*store);
 }
 
 fn run(s: &[u8], store: &mut [u32]) {
     let answer = decode_run(s, &mut *store);
-    out::text(b"run");
+    printing::text(b"run");
     print::answer(answer);
     print::left(answer, &*store);
 }
@@ -95,7 +95,7 @@ fn case() -> bool {
     let size = two(head[3], head[4]);
     let mut buffer = io::large_buffer();
     if n < 5 || 4096 < words || !input(head[0], words, &mut buffer[..size]) {
-        out::text(b"input=bad\n");
+        printing::text(b"input=bad\n");
         return false;
     }
     true

@@ -18,17 +18,17 @@ pub fn octet(b: u8) -> usize
 }
 
 pub fn answer(a: Answer) {
-    out::number(b" code=", a.code as u64);
-    out::number(b" at=", a.at as u64);
-    out::number(b" steps=", a.steps as u64);
-    out::number(b" needed=", a.needed as u64);
+    printing::number(b" code=", a.code as u64);
+    printing::number(b" at=", a.at as u64);
+    printing::number(b" steps=", a.steps as u64);
+    printing::number(b" needed=", a.needed as u64);
 }
 
 // A type, and sixteen bytes in hexadecimal.
 pub fn address(a: Address) {
     let bytes = a.bytes;
     word(b" header=", a.kind);
-    out::text(b",");
+    printing::text(b",");
     let mut i = 0;
     while i < 16 {
         io::print_hex(STDOUT_FILENO, octet(bytes[i]) as u64, 2);
@@ -52,7 +52,7 @@ fn kept(store: &[u32], from: usize) -> usize
 }
 
 pub fn word(name: &[u8], w: u32) {
-    out::number(name, w as u64);
+    printing::number(name, w as u64);
 }
 
 // The descriptor whose first word is at `at`.
@@ -83,9 +83,9 @@ fn descriptors(store: &[u32], n: usize)
 fn behind(store: &[u32], n: usize)
     requires { ⌜ row-words * n ≤ length (now store) ⌝ }
 {
-    out::number(b" kept=", kept(store, DESCRIPTOR_WORDS * n) as u64);
+    printing::number(b" kept=", kept(store, DESCRIPTOR_WORDS * n) as u64);
     descriptors(store, n);
-    out::text(b"\n");
+    printing::text(b"\n");
 }
 
 // The store that a call leaves: it has descriptors where the code is 0.

@@ -7,23 +7,23 @@ use xdr::Span;
 
 // A new descriptor: the code, the position and the steps of its field reading.
 pub fn outcome(o: Outcome) {
-    out::number(b"; ", o.code as u64);
-    out::number(b",", o.at as u64);
-    out::number(b",", o.steps as u64);
+    printing::number(b"; ", o.code as u64);
+    printing::number(b",", o.at as u64);
+    printing::number(b",", o.steps as u64);
 }
 
 pub fn word(w: u32) {
-    out::number(b" ", w as u64);
+    printing::number(b" ", w as u64);
 }
 
 pub fn long(w: u64) {
-    out::number(b" ", w);
+    printing::number(b" ", w);
 }
 
 // A start and a count.
 pub fn span(x: Span) {
-    out::number(b" ", x.start as u64);
-    out::number(b"+", x.count as u64);
+    printing::number(b" ", x.start as u64);
+    printing::number(b"+", x.count as u64);
 }
 
 // Bytes in hexadecimal.
@@ -36,7 +36,7 @@ fn hex(s: &[u8]) {
 }
 
 pub fn octets(s: &[u8]) {
-    out::text(b" ");
+    printing::text(b" ");
     hex(s);
 }
 
@@ -44,6 +44,6 @@ pub fn octets(s: &[u8]) {
 pub fn address(a: Address) {
     let bytes = a.bytes;
     word(a.kind);
-    out::text(b"/");
+    printing::text(b"/");
     hex(&bytes);
 }

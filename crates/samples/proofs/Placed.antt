@@ -19,8 +19,8 @@ use Rattle.flows.specs.Passing.{Flat-of}
 use Rattle.store.proofs.Placing as placing
 use Rattle.flows.proofs.Placing as records
 use Rattle.store.proofs.Placing.{a-put, word-is, store-is}
-use Rattle.samples.specs.declared.fields.Kind.{Kind}
-use Rattle.samples.specs.declared.fields.Kind.the-variants as kind
+use Rattle.samples.specs.declared.heads.SampleKind.{SampleKind}
+use Rattle.samples.specs.declared.heads.SampleKind.the-variants as kind
 use Rattle.samples.specs.Held.{counted-by-last, held, words-of, Is-kind}
 use Rattle.samples.proofs.Sampling.{flows-words, counters-words, last-of}
 
@@ -51,13 +51,13 @@ unfolding fills placed
 placed-fills pen o l e = let a = word-is pen o l e in let b = store-is pen o l e in λ h. record { word = a h; store = b h }
 
 -- ---- a sample whose n words are followed by as many of `body` as the last of them says
-pub held-flows : {r : Kind} {f n : ℕ} → Is-kind r f → r ≡ kind.Flows n → opened (samples 8) f ≡ counted-by-last n (flow 8 8)
+pub held-flows : {r : SampleKind} {f n : ℕ} → Is-kind r f → r ≡ kind.Flows n → opened (samples 8) f ≡ counted-by-last n (flow 8 8)
 held-flows q e = q .is ∙ ap held e
 
-pub held-counters : {r : Kind} {f n : ℕ} → Is-kind r f → r ≡ kind.Counters n → opened (samples 8) f ≡ counted-by-last n counter
+pub held-counters : {r : SampleKind} {f n : ℕ} → Is-kind r f → r ≡ kind.Counters n → opened (samples 8) f ≡ counted-by-last n counter
 held-counters q e = q .is ∙ ap held e
 
-pub kind-some : {r : Kind} {f n : ℕ} → Is-kind r f → words-of r ≡ n → 1 ≤ n
+pub kind-some : {r : SampleKind} {f n : ℕ} → Is-kind r f → words-of r ≡ n → 1 ≤ n
 kind-some q e = omega (arith, q .some)
 
 module _ (body : Script) (n : ℕ) (s l : List ℕ) (at : ℕ) (pen : Pen) (f : ℕ) (g : Ready s l pen (follow (opened (samples 8) f) s (from at))) (i : at ≤ length s)
@@ -98,7 +98,7 @@ module _ (body : Script) (n : ℕ) (s l : List ℕ) (at : ℕ) (pen : Pen) (f : 
 
 pub ruleset arms = (held-flows, held-counters, flows-words, counters-words, kind-some, placed-fills, needs)
 
-pub raw-filled : {r : Kind} (f : ℕ) (s l : List ℕ) (at : ℕ) (pen : Pen) → Is-kind r f → r ≡ kind.Raw → filled (pen .word) l ≡ fills pen (follow (opened (samples 8) f) s (from at)) l
+pub raw-filled : {r : SampleKind} (f : ℕ) (s l : List ℕ) (at : ℕ) (pen : Pen) → Is-kind r f → r ≡ kind.Raw → filled (pen .word) l ≡ fills pen (follow (opened (samples 8) f) s (from at)) l
 unfolding follow ranges-of
 raw-filled f s l at pen q e = placing.nothing-more (follow (opened (samples 8) f) s (from at)) pen l (ap (λ (x : Script). ranges-of (follow x s (from at))) (q .is ∙ ap held e))
 

@@ -27,14 +27,14 @@ use Rattle.layout.specs.declared.frames.Frame.{Frame}
 use Rattle.layout.specs.declared.frames.Frame.the-variants as frame
 use Rattle.layout.specs.declared.frames.Scanned.{Scanned}
 use Rattle.layout.specs.declared.frames.Scanned.the-variants as scanned
-use Rattle.flows.specs.declared.ahead.Ahead.{Ahead}
+use Rattle.flows.specs.declared.scan_ahead.Ahead.{Ahead}
 use Rattle.layout.specs.Scanned.{Scan, frame-out, scanned-out}
 use Rattle.flows.specs.Passing.{Ahead-of}
 use Rattle.layout.specs.Chain.{Then, goes, halts, Ends, ends, There}
 use Rattle.layout.proofs.Chain.{both, within-start, within-ends}
 use Rattle.layout.proofs.Scan.{scan-inside, scan-short, Thrift, scan-on, scan-done, scan-turn, scan-stop, frame-ends, frame-fits, frame-part, frame-counts, frame-scan}
-use Rattle.samples.specs.declared.fields.Kind.{Kind}
-use Rattle.samples.specs.declared.fields.Kind.the-variants as kind
+use Rattle.samples.specs.declared.heads.SampleKind.{SampleKind}
+use Rattle.samples.specs.declared.heads.SampleKind.the-variants as kind
 use Rattle.samples.specs.Held.{counted-by-last, held, words-of, Is-kind, Counted, on, over, Has-last, rest-of}
 
 pub counter-thrift : Thrift counter
@@ -97,14 +97,14 @@ pub rows-counted : {ws : List Value} {q p : Passed} (l m : List Field) (s : List
 rows-counted l m s c k (ends t) u g = fields-counted (l ++ m) s c k (both t u) g
 
 -- ---- what a sample holds, by its kind
-pub flows-words : {r : Kind} {n : ℕ} → r ≡ kind.Flows n → words-of r ≡ n
+pub flows-words : {r : SampleKind} {n : ℕ} → r ≡ kind.Flows n → words-of r ≡ n
 flows-words e = rw e
 
-pub counters-words : {r : Kind} {n : ℕ} → r ≡ kind.Counters n → words-of r ≡ n
+pub counters-words : {r : SampleKind} {n : ℕ} → r ≡ kind.Counters n → words-of r ≡ n
 counters-words e = rw e
 
 -- its words, of which the last counts what follows
-module _ {r : Kind} {f : ℕ} (q : Is-kind r f) {n : ℕ} (e : words-of r ≡ n) where
+module _ {r : SampleKind} {f : ℕ} (q : Is-kind r f) {n : ℕ} (e : words-of r ≡ n) where
   pub kind-sub : 4 ≤ 4 * n
   kind-sub = omega (arith, q .some)
 
@@ -143,7 +143,7 @@ pub none-before : (n : ℕ) (s : List ℕ) {c : Cursor} → n ≡ 8 → Inside s
 unfolding fields-out
 none-before n s e i = let z : n - 8 ≡ 0 = omega arith in rw z (ends {vs = []} (goes refl i))
 
-pub flows-eight : {r : Kind} {f n : ℕ} → Is-kind r f → r ≡ kind.Flows n → 8 ≤ n
+pub flows-eight : {r : SampleKind} {f n : ℕ} → Is-kind r f → r ≡ kind.Flows n → 8 ≤ n
 flows-eight q e = rw e at (q .eight)
 
 pub eight-last : {s : List ℕ} {p : Passed} {at : ℕ} → There 8 s p at → Has-last s p at 28
@@ -160,7 +160,7 @@ module _ (f : ℕ) (s : List ℕ) (c : Cursor) (k : ℕ) where
   by-last n body at {p} r h t q =
       q ∙ ap (λ (m : ℕ). rest-of body s p m k) (sym (last-of n s at h)) ∙ each body (words n) t ∙ ap (λ (x : Script). counted k (follow x s (place c))) (sym r)
 
-  module _ {r : Kind} (q : Is-kind r f) where
+  module _ {r : SampleKind} (q : Is-kind r f) where
     pub flows-arm : {n : ℕ} (at : ℕ) {v p : Passed} {o : Out ℕ} → r ≡ kind.Flows n → Ends (words (n - 8)) s (passed.Got c) v → Then (words 8) s v p (numbers 8 s at) → o ≡ rest-of (flow 8 8) s p (be4 s (at + 28)) k
         → o ≡ counted k (follow (opened (samples 8) f) s (place c))
     flows-arm {n} at {p = p} e (ends {vs} t) u i =

@@ -5,11 +5,11 @@ use mathlib.Core.List.{List, [], _∷_, map}
 use Rattle.reading.specs.Examples.{Result, of-fields, Example, sample-fields}
 use Rattle.xdr.specs.Shown.{answer-of}
 use Rattle.samples.specs.Shown.{flow-sample, counters-sample, flow-sample-expanded, counters-sample-expanded, discarded-packet}
-use Rattle.samples.specs.declared.fields.FlowSample.{FlowSample}
-use Rattle.samples.specs.declared.fields.CountersSample.{CountersSample}
-use Rattle.samples.specs.declared.fields.FlowSampleExpanded.{FlowSampleExpanded}
-use Rattle.samples.specs.declared.fields.CountersSampleExpanded.{CountersSampleExpanded}
-use Rattle.samples.specs.declared.fields.DiscardedPacket.{DiscardedPacket}
+use Rattle.samples.specs.declared.heads.FlowSample.{FlowSample}
+use Rattle.samples.specs.declared.heads.CountersSample.{CountersSample}
+use Rattle.samples.specs.declared.heads.FlowSampleExpanded.{FlowSampleExpanded}
+use Rattle.samples.specs.declared.heads.CountersSampleExpanded.{CountersSampleExpanded}
+use Rattle.samples.specs.declared.heads.DiscardedPacket.{DiscardedPacket}
 
 -- flow_sample, format 1
 sample-1 : FlowSample

@@ -14,31 +14,31 @@ use Rattle.xdr.specs.declared.Passed.the-variants as passed
 use Rattle.xdr.specs.Shown.{place, refusal}
 use Rattle.layout.specs.Chain.{Sure}
 use Rattle.layout.specs.Scanned.{Scan}
-use Rattle.samples.specs.declared.fields.Kind.{Kind}
-use Rattle.samples.specs.declared.fields.Kind.the-variants as kind
+use Rattle.samples.specs.declared.heads.SampleKind.{SampleKind}
+use Rattle.samples.specs.declared.heads.SampleKind.the-variants as kind
 
 -- ---- what a sample holds
 
 abbrev pub counted-by-last : ℕ → Script → Script
 counted-by-last n body = fields (words n) (λ us. repeat (last-number us) body (λ a. give a))
 
-abbrev pub held : Kind → Script
+abbrev pub held : SampleKind → Script
 held (kind.Flows n) = counted-by-last n (flow 8 8)
 held (kind.Counters n) = counted-by-last n counter
 held kind.Raw = give nothing
 
-abbrev pub words-of : Kind → ℕ
+abbrev pub words-of : SampleKind → ℕ
 words-of (kind.Flows n) = n
 words-of (kind.Counters n) = n
 words-of kind.Raw = 1
 
 -- the words that stand behind all others before flow records
-abbrev pub eight-of : Kind → ℕ
+abbrev pub eight-of : SampleKind → ℕ
 eight-of (kind.Flows n) = 8
 eight-of (kind.Counters n) = 0
 eight-of kind.Raw = 0
 
-pub record Is-kind (r : Kind) (f : ℕ) : Type 0 where
+pub record Is-kind (r : SampleKind) (f : ℕ) : Type 0 where
   pub is : opened (samples 8) f ≡ held r
   pub some : 1 ≤ words-of r
   pub few : words-of r ≤ 11

@@ -1,11 +1,11 @@
 -- What this crate's records are in terms of the reading: the values of their fields, in the order of the layout. Assumes nothing.
 use mathlib.Core.List.{List, [], _∷_}
 use Rattle.reading.specs.Script.{Value, number}
-use Rattle.samples.specs.declared.fields.FlowSample.{FlowSample}
-use Rattle.samples.specs.declared.fields.CountersSample.{CountersSample}
-use Rattle.samples.specs.declared.fields.FlowSampleExpanded.{FlowSampleExpanded}
-use Rattle.samples.specs.declared.fields.CountersSampleExpanded.{CountersSampleExpanded}
-use Rattle.samples.specs.declared.fields.DiscardedPacket.{DiscardedPacket}
+use Rattle.samples.specs.declared.heads.FlowSample.{FlowSample}
+use Rattle.samples.specs.declared.heads.CountersSample.{CountersSample}
+use Rattle.samples.specs.declared.heads.FlowSampleExpanded.{FlowSampleExpanded}
+use Rattle.samples.specs.declared.heads.CountersSampleExpanded.{CountersSampleExpanded}
+use Rattle.samples.specs.declared.heads.DiscardedPacket.{DiscardedPacket}
 
 abbrev pub flow-sample : FlowSample → List Value
 flow-sample r =

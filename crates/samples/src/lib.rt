@@ -1,4 +1,4 @@
 // The samples of a datagram: their fields, and the records that they hold.
-pub mod fields;
+pub mod heads;
 pub mod put;
 pub mod scan;

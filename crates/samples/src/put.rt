@@ -7,8 +7,8 @@ ghost use Rattle.reading.specs.Cursor.{times, follow};
 ghost use Rattle.reading.specs.Layout.{opened, flow, counter, samples, sample};
 ghost use Rattle.reading.specs.Answer.{from};
 ghost use Rattle.store.specs.Written.{Ready, written, placed, filled, fills};
-use crate::fields::Kind;
-use crate::fields::kind_of;
+use crate::heads::SampleKind;
+use crate::heads::kind_of;
 use flows::put::put_flat_records;
 use flows::put::put_pdus;
 use store::Pen;
@@ -106,18 +106,18 @@ fn put_sample_data(s: &[u8], at: usize, format: u32, store: &mut [u32], pen: Pen
     ensures { λ r. ⌜ filled r (now (store .exit)) ≡ fills pen (follow (opened (samples 8) format) (now (s .entry)) (from at)) (now (store .entry)) ⌝ }
 {
     match kind_of(format) {
-        Kind::Flows(k) => {
+        SampleKind::Flows(k) => {
             let first = at + 4 * (k as usize);
             let n = load::be32(s, first - 4);
             put_sample_flows(s, first, n, store, pen)
         }
-        Kind::Counters(k) => {
+        SampleKind::Counters(k) => {
             let first = at + 4 * (k as usize);
             let n = load::be32(s, first - 4);
             let w = put_counter_records(s, first, n, store, pen);
             w.word
         }
-        Kind::Raw => pen.word,
+        SampleKind::Raw => pen.word,
     }
 }
 

@@ -1,4 +1,4 @@
-// The first pass over samples: judged and counted, with nothing kept.
+// The first pass over samples, which counts descriptors and keeps nothing.
 ghost use mathlib.Core.Path.{_≡_};
 ghost use Prim.Native.Nat.{_+_, _-_, _≤_};
 ghost use Rattle.reading.specs.Bytes.{be4};
@@ -9,10 +9,10 @@ ghost use Rattle.xdr.specs.Shown.{place, Inside};
 ghost use Rattle.layout.specs.Scanned.{Scan, scanned-out};
 ghost use Rattle.layout.specs.Chain.{Ends};
 ghost use Rattle.samples.specs.Held.{Counted, Has-last, rest-of};
-use crate::fields::Kind;
-use crate::fields::kind_of;
-use flows::ahead;
-use flows::records;
+use crate::heads::SampleKind;
+use crate::heads::kind_of;
+use flows::scan;
+use flows::scan_ahead;
 use layout::field;
 use layout::field::WordsAt;
 use layout::frames::Frame;
@@ -66,13 +66,13 @@ fn flows_behind(s: &[u8], row: WordsAt, last: usize, count: usize) -> Scanned
         Passed::Stop(r) => Scanned::Stop(r),
         Passed::Got(d) => {
             let n = load::be32(s, row.at + last);
-            let a = ahead::pass_ahead(s, d, n, count);
+            let a = scan_ahead::flow_records(s, d, n, count);
             let cur = a.cursor;
             if a.rest == 0 {
                 return Scanned::Got(cur, a.count);
             }
             // Lent anew, so that its two words go to the stack only where there is a call.
-            records::flow_records(&*s, cur, a.rest, 8, a.count)
+            scan::flow_records(&*s, cur, a.rest, 8, a.count)
         }
     }
 }
@@ -113,15 +113,15 @@ fn sample_data(s: &[u8], c: Cursor, format: u32, count: usize) -> Scanned
     ensures { λ r. ⌜ scanned-out r ≡ counted count (follow (opened (samples 8) format) (now (s .entry)) (place c)) ⌝ }
 {
     match kind_of(format) {
-        Kind::Flows(n) => {
+        SampleKind::Flows(n) => {
             let row = field::words(before_eight(c, s, n), s, 8);
             flows_behind(s, row, 28, count)
         }
-        Kind::Counters(n) => {
+        SampleKind::Counters(n) => {
             let row = field::words(Passed::Got(c), s, n);
             counters_behind(s, row, 4 * (n as usize) - 4, count)
         }
-        Kind::Raw => Scanned::Got(c, count),
+        SampleKind::Raw => Scanned::Got(c, count),
     }
 }
 

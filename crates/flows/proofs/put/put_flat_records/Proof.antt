@@ -19,16 +19,16 @@ put-flat-records-spec =
     (tie.spec
     Inv-loop
     μ-loop
-    (λ c. search flat)  -- sub-depth put.rt:101:18
-    (λ c. search flat)  -- cast-depth put.rt:101:17
-    (λ c. search flat)  -- loop-holds put.rt:105:5
-    (λ c κs. search flat)  -- be32-requires put.rt:106:12
-    (λ c. search flat)  -- same-length put.rt:107:13
-    (λ c. search flat)  -- returns put.rt:107:13
-    (λ c κs. search flat)  -- put-frame-requires put.rt:113:13
-    (λ c. search flat)  -- sub-rest put.rt:127:16
-    (λ c. search flat)  -- loop-less put.rt:105:5
-    (λ c. (search flat, search flat, (search flat, search flat, search flat)))  -- loop-again put.rt:105:5
-    (λ c. search flat)  -- same-length-2 put.rt:87:1
-    (λ c. search flat)  -- returns-2 put.rt:87:1
+    (λ c. search flat)  -- sub-depth
+    (λ c. search flat)  -- cast-depth
+    (λ c. search flat)  -- loop-holds
+    (λ c κs. search flat)  -- be32-requires
+    (λ c. search flat)  -- same-length
+    (λ c. search flat)  -- returns
+    (λ c κs. search flat)  -- put-frame-requires
+    (λ c. search flat)  -- sub-rest
+    (λ c. search flat)  -- loop-less
+    (λ c. (search flat, search flat, (search flat, search flat, search flat)))  -- loop-again
+    (λ c. search flat)  -- same-length-2
+    (λ c. search flat)  -- returns-2
     )

@@ -17,11 +17,11 @@ put-counter-records-spec =
     (tie.spec
     Inv-loop
     μ-loop
-    (λ c. search writing)  -- loop-holds put.rt:28:5
-    (λ c κs. search writing)  -- put-frame-requires put.rt:29:13
-    (λ c. search writing)  -- sub-rest put.rt:43:16
-    (λ c. search writing)  -- loop-less put.rt:28:5
-    (λ c. counter-turn _ _ _ _ _ _ _ (c .before .before .before .before .before .loop .inv .1) (c .before .before .before .before .loop-test .taken) (c .before .before .put-frame .ensures) (c .before .before .before .before .before .loop .inv .0) (c .before .before .before .before .before .loop .inv .2))  -- loop-again put.rt:28:5
-    (λ c. search writing)  -- same-length put.rt:19:1
-    (λ c. put-done _ _ _ _ _ _ _ _ (c .before .loop .inv .2) (c .loop-test .left))  -- returns put.rt:19:1
+    (λ c. search writing)  -- loop-holds
+    (λ c κs. search writing)  -- put-frame-requires
+    (λ c. search writing)  -- sub-rest
+    (λ c. search writing)  -- loop-less
+    (λ c. counter-turn _ _ _ _ _ _ _ (c .before .before .before .before .before .loop .inv .1) (c .before .before .before .before .loop-test .taken) (c .before .before .put-frame .ensures) (c .before .before .before .before .before .loop .inv .0) (c .before .before .before .before .before .loop .inv .2))  -- loop-again
+    (λ c. search writing)  -- same-length
+    (λ c. put-done _ _ _ _ _ _ _ _ (c .before .loop .inv .2) (c .loop-test .left))  -- returns
     )

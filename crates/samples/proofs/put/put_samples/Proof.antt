@@ -17,11 +17,11 @@ put-samples-spec =
     (tie.spec
     Inv-loop
     μ-loop
-    (λ c. search writing)  -- loop-holds put.rt:163:5
-    (λ c κs. search writing)  -- put-sample-requires put.rt:164:13
-    (λ c. search writing)  -- sub-rest put.rt:176:16
-    (λ c. search writing)  -- loop-less put.rt:163:5
-    (λ c. search writing)  -- loop-again put.rt:163:5
-    (λ c. search writing)  -- same-length put.rt:154:1
-    (λ c. put-done _ _ _ _ _ _ _ _ (c .before .loop .inv .2) (c .loop-test .left))  -- returns put.rt:154:1
+    (λ c. search writing)  -- loop-holds
+    (λ c κs. search writing)  -- put-sample-requires
+    (λ c. search writing)  -- sub-rest
+    (λ c. search writing)  -- loop-less
+    (λ c. search writing)  -- loop-again
+    (λ c. search writing)  -- same-length
+    (λ c. put-done _ _ _ _ _ _ _ _ (c .before .loop .inv .2) (c .loop-test .left))  -- returns
     )

@@ -16,13 +16,13 @@ counter-records-spec =
     (tie.spec
     Inv-loop
     μ-loop
-    (λ c. search sampling)  -- loop-holds scan.rt:40:5
-    (λ c κs. search sampling)  -- counter-record-requires scan.rt:41:15
-    (λ c. search sampling)  -- enum-known-r scan.rt:42:27
-    (λ c. search sampling)  -- returns scan.rt:43:17
-    (λ c. search sampling)  -- enum-known-d scan.rt:45:26
-    (λ c. search sampling)  -- sub-rest scan.rt:50:16
-    (λ c. search sampling)  -- loop-less scan.rt:40:5
-    (λ c. search sampling)  -- loop-again scan.rt:40:5
-    (λ c. search sampling)  -- returns-2 scan.rt:33:1
+    (λ c. search sampling)  -- loop-holds
+    (λ c κs. search sampling)  -- counter-record-requires
+    (λ c. search sampling)  -- enum-known-r
+    (λ c. search sampling)  -- returns
+    (λ c. search sampling)  -- enum-known-d
+    (λ c. search sampling)  -- sub-rest
+    (λ c. search sampling)  -- loop-less
+    (λ c. search sampling)  -- loop-again
+    (λ c. search sampling)  -- returns-2
     )

@@ -6,13 +6,13 @@ pub flows-behind-spec : {M : Type 1} → statement M
 flows-behind-spec =
     tie.close
     (tie.spec
-    (λ c. search sampling)  -- enum-known-passed scan.rt:66:22
-    (λ c. search sampling)  -- enum-known-passed-2 scan.rt:67:21
-    (λ c. search sampling)  -- add-be32 scan.rt:68:35
-    (λ c κs. search sampling)  -- be32-requires scan.rt:68:17
-    (λ c κs. search sampling)  -- pass-ahead-requires scan.rt:69:17
-    (λ c. search sampling)  -- returns scan.rt:72:17
-    (λ c κs. search sampling)  -- flow-records-requires scan.rt:74:13
-    (λ c. search sampling)  -- returns-2 scan.rt:59:1
-    (λ c. search sampling)  -- returns-3 scan.rt:59:1
+    (λ c. search sampling)  -- enum-known-passed
+    (λ c. search sampling)  -- enum-known-passed-2
+    (λ c. search sampling)  -- add-be32
+    (λ c κs. search sampling)  -- be32-requires
+    (λ c κs. search sampling)  -- flow-records-requires
+    (λ c. search sampling)  -- returns
+    (λ c κs. search sampling)  -- flow-records-requires-2
+    (λ c. search sampling)  -- returns-2
+    (λ c. search sampling)  -- returns-3
     )

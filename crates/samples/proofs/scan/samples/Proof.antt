@@ -16,13 +16,13 @@ samples-spec =
     (tie.spec
     Inv-loop
     μ-loop
-    (λ c. search sampling)  -- loop-holds scan.rt:153:5
-    (λ c κs. search sampling)  -- one-sample-requires scan.rt:154:15
-    (λ c. search sampling)  -- enum-known-r scan.rt:155:27
-    (λ c. search sampling)  -- returns scan.rt:156:17
-    (λ c. search sampling)  -- enum-known-d scan.rt:158:26
-    (λ c. search sampling)  -- sub-rest scan.rt:163:16
-    (λ c. search sampling)  -- loop-less scan.rt:153:5
-    (λ c. search sampling)  -- loop-again scan.rt:153:5
-    (λ c. search sampling)  -- returns-2 scan.rt:146:1
+    (λ c. search sampling)  -- loop-holds
+    (λ c κs. search sampling)  -- one-sample-requires
+    (λ c. search sampling)  -- enum-known-r
+    (λ c. search sampling)  -- returns
+    (λ c. search sampling)  -- enum-known-d
+    (λ c. search sampling)  -- sub-rest
+    (λ c. search sampling)  -- loop-less
+    (λ c. search sampling)  -- loop-again
+    (λ c. search sampling)  -- returns-2
     )

@@ -6,5 +6,5 @@ use Rattle.datagram.proofs.decode.Decoded.refused.Tie as tie
 pub refused-spec : {M : Type 1} → statement M
 unfolding header-of no-header
 refused-spec = tie.close (tie.spec
-    (λ c. record { leaves = λ w. refl })  -- returns decode.rt:31:5
+    (λ c. record { leaves = λ w. refl })  -- returns
     )

@@ -1,0 +1,56 @@
+// Where the payload of a descriptor lies in the input, and all of it with its pad.
+ghost use mathlib.Core.Path.{_≡_};
+ghost use Rattle.reading.specs.Answer.{payload-span, whole-span, payload};
+ghost use Rattle.xdr.specs.Shown.{span};
+use store::Descriptor;
+use xdr::Span;
+use xdr::load;
+
+// Where a descriptor's payload lies. It is empty where a field reading would refuse the range.
+pub fn payload_span(s: &[u8], d: Descriptor) -> Span
+    ensures { λ r. ⌜ span r ≡ payload-span (now (s .entry)) (d .start) (d .length) ⌝ }
+{
+    let start = d.start as usize;
+    let count = d.length as usize;
+    if 16777216 < s.len() {
+        return Span { start: 0, count: 0 };
+    }
+    if s.len() < start + count {
+        return Span { start: 0, count: 0 };
+    }
+    Span {
+        start: start,
+        count: count,
+    }
+}
+
+// Where all of it lies, from its first byte to the end of its pad: what a relay forwards. It is empty likewise.
+pub fn whole_span(s: &[u8], d: Descriptor) -> Span
+    ensures { λ r. ⌜ span r ≡ whole-span (now (s .entry)) (d .start) (d .length) (d .first) ⌝ }
+{
+    let first = d.first as usize;
+    let start = d.start as usize;
+    let end = start + load::padded(d.length as usize);
+    if 16777216 < s.len() {
+        return Span { start: 0, count: 0 };
+    }
+    if start < first {
+        return Span { start: 0, count: 0 };
+    }
+    if s.len() < end {
+        return Span { start: 0, count: 0 };
+    }
+    Span {
+        start: first,
+        count: end - first,
+    }
+}
+
+// A descriptor's payload, as that part of the caller's buffer.
+pub fn payload(s: &[u8], d: Descriptor) -> &[u8]
+    ensures { λ r. ⌜ now r ≡ payload (now (s .entry)) (d .start) (d .length) ⌝ }
+{
+    let x = payload_span(s, d);
+    let start = x.start;
+    &s[start..start + x.count]
+}

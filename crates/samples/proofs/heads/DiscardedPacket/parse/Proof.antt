@@ -1,0 +1,27 @@
+use Rattle.reading.specs.Layout.{samples}
+use Rattle.reading.specs.Answer.{layout-of}
+use Rattle.layout.proofs.Chain.{steps, places, rows}
+use Rattle.samples.proofs.heads.DiscardedPacket.parse.Statement.{statement}
+use Rattle.samples.proofs.heads.DiscardedPacket.parse.Tie as tie
+
+pub parse-spec : {M : Type 1} → statement M
+unfolding layout-of samples
+parse-spec =
+    tie.close
+    (tie.spec
+    (λ c κs. search steps)  -- row-requires
+    (λ c. search steps)  -- enum-known-passed
+    (λ c. search steps)  -- enum-known-passed-2
+    (λ c κs. search places)  -- load-words-requires
+    (λ c κs. search steps)  -- accepted-requires
+    (λ c. search steps)  -- array-read-t15
+    (λ c. search steps)  -- array-read-t18
+    (λ c. search steps)  -- array-read-t21
+    (λ c. search steps)  -- array-read-t25
+    (λ c. search steps)  -- array-read-t28
+    (λ c. search steps)  -- array-read-t31
+    (λ c. search steps)  -- array-read-t34
+    (λ c. search steps)  -- array-read-t37
+    (λ c. search rows)  -- returns
+    (λ c. search rows)  -- returns-2
+    )

@@ -1,0 +1,27 @@
+use Rattle.reading.specs.Layout.{samples}
+use Rattle.reading.specs.Answer.{layout-of}
+use Rattle.layout.proofs.Chain.{steps, places, rows}
+use Rattle.samples.proofs.heads.FlowSample.parse.Statement.{statement}
+use Rattle.samples.proofs.heads.FlowSample.parse.Tie as tie
+
+pub parse-spec : {M : Type 1} → statement M
+unfolding layout-of samples
+parse-spec =
+    tie.close
+    (tie.spec
+    (λ c κs. search steps)  -- row-requires
+    (λ c. search steps)  -- enum-known-passed
+    (λ c. search steps)  -- enum-known-passed-2
+    (λ c κs. search places)  -- load-words-requires
+    (λ c κs. search steps)  -- accepted-requires
+    (λ c. search steps)  -- array-read-t17
+    (λ c. search steps)  -- array-read-t20
+    (λ c. search steps)  -- array-read-t24
+    (λ c. search steps)  -- array-read-t27
+    (λ c. search steps)  -- array-read-t30
+    (λ c. search steps)  -- array-read-t33
+    (λ c. search steps)  -- array-read-t37
+    (λ c. search steps)  -- array-read-t41
+    (λ c. search rows)  -- returns
+    (λ c. search rows)  -- returns-2
+    )
