@@ -12,7 +12,8 @@ use Rattle.reading.specs.Script.{Value, number, Found}
 use Rattle.reading.specs.Cursor.{Place, Out, got, stop, times, follow}
 use Rattle.reading.specs.Layout.{version, addr, words, last-number, sample, header, datagram}
 use Rattle.reading.specs.Answer as answer
-use Rattle.reading.specs.Answer.{limited, row-words, size, rows, room, from, nobody, header-of, no-header, refused, stored, one, run}
+use Rattle.reading.specs.Answer.{limited, size, rows, room, from, nobody, header-of, no-header, refused, stored, one, run}
+use Rattle.reading.specs.Sizes.{descriptor-words, longest-input, depth-limit}
 use Rattle.reading.proofs.Items.{never, split}
 use Rattle.reading.proofs.Room.{whole, thrifty-datagram, datagram-on}
 use Rattle.reading.proofs.Runs.{run-from, thrifty-run}
@@ -58,28 +59,28 @@ scanned-whole (got a p) e k u =
 scanned-whole (stop c a n) e k u = never (sym u)
 
 module _ (head : List Value → answer.Header) (o : Out Found) (s w : List ℕ) where
-  beyond : 16777216 < length s → refused 1 0 0 0 w ≡ answered head o s w
-  beyond h = rw (lt-leb (length s) 16777216 h)
+  beyond : longest-input < length s → refused 1 0 0 0 w ≡ answered head o s w
+  beyond h = rw (lt-leb (length s) longest-input h)
 
   -- where descriptors were answered, the store has room for them
-  has-room : answered head o s w .code ≡ 0 → row-words * answered head o s w .needed ≤ length w
+  has-room : answered head o s w .code ≡ 0 → descriptor-words * answered head o s w .needed ≤ length w
   unfolding stored
-  has-room e = go (leb (length s) 16777216) o e
+  has-room e = go (leb (length s) longest-input) o e
     where
       fits : (b : Bool) (a : Found) (p : Place) → leb (size (a .ranges)) (room w) ≡ b
-          → (cond b (record { code = 0; at = p .at; steps = p .steps; needed = size (a .ranges); head = head (a .values); store = rows 0 nobody (a .ranges) ++ drop (row-words * size (a .ranges)) w }) (refused 9 0 (p .steps) (size (a .ranges)) w)) .code ≡ 0
-          → row-words * (cond b (record { code = 0; at = p .at; steps = p .steps; needed = size (a .ranges); head = head (a .values); store = rows 0 nobody (a .ranges) ++ drop (row-words * size (a .ranges)) w }) (refused 9 0 (p .steps) (size (a .ranges)) w)) .needed ≤ length w
+          → (cond b (record { code = 0; at = p .at; steps = p .steps; needed = size (a .ranges); head = head (a .values); store = rows 0 nobody (a .ranges) ++ drop (descriptor-words * size (a .ranges)) w }) (refused 9 0 (p .steps) (size (a .ranges)) w)) .code ≡ 0
+          → descriptor-words * (cond b (record { code = 0; at = p .at; steps = p .steps; needed = size (a .ranges); head = head (a .values); store = rows 0 nobody (a .ranges) ++ drop (descriptor-words * size (a .ranges)) w }) (refused 9 0 (p .steps) (size (a .ranges)) w)) .needed ≤ length w
       fits true a p t e = let y = leb-true (size (a .ranges)) (room w) t in omega arith
       fits false a p t e = absurd (omega arith)
 
-      go : (b : Bool) (o : Out Found) → (cond b (stored head o w) (refused 1 0 0 0 w)) .code ≡ 0 → row-words * (cond b (stored head o w) (refused 1 0 0 0 w)) .needed ≤ length w
+      go : (b : Bool) (o : Out Found) → (cond b (stored head o w) (refused 1 0 0 0 w)) .code ≡ 0 → descriptor-words * (cond b (stored head o w) (refused 1 0 0 0 w)) .needed ≤ length w
       go false o e = omega arith
       go true (stop c a n) e = omega arith
       go true (got a p) e = fits (leb (size (a .ranges)) (room w)) a p refl e
 
-  module _ (short : length s ≤ 16777216) where
+  module _ (short : length s ≤ longest-input) where
     within : answered head o s w ≡ stored head o w
-    within = rw (le-leb (length s) 16777216 short)
+    within = rw (le-leb (length s) longest-input short)
 
     stops : (x : Outcome) → refusal x ≡ counted 0 o → refused (x .code) (x .at) (x .steps) 0 w ≡ answered head o s w
     unfolding counted stored
@@ -101,7 +102,7 @@ module _ (head : List Value → answer.Header) (o : Out Found) (s w : List ℕ) 
           let y : stored head o w ≡ refused 9 0 (e .steps) (size (t .found .ranges)) w = ap (λ (u : Out Found). stored head u w) (t .is) ∙ rw z in
           rw (t .count) (sym y) ∙ sym within
 
-      fills : k ≤ room w → k ≤ 16777216 → Ready s w (root 0) o
+      fills : k ≤ room w → k ≤ longest-input → Ready s w (root 0) o
       unfolding ranges-of
       fills h l =
           let z : size (ranges-of o) ≡ size (t .found .ranges) = ap (λ (u : Out Found). size (ranges-of u)) (t .is) in
@@ -114,10 +115,10 @@ module _ (head : List Value → answer.Header) (o : Out Found) (s w : List ℕ) 
       stores {l′} {d} h r q =
           let fs = t .found .ranges in
           let y = le-leb (size fs) (room w) (rw (t .count) at h) in
-          let b : length (rows 0 nobody fs) ≡ row-words * size fs = rows-length 0 nobody fs in
+          let b : length (rows 0 nobody fs) ≡ descriptor-words * size fs = rows-length 0 nobody fs in
           let m : length (rows 0 nobody fs) ≤ length w = let x = t .count in omega (arith, b) in
           let g : l′ ≡ write w 0 (rows 0 nobody fs) = r ∙ ap (λ (u : Out Found). write w 0 (rows 0 nobody (ranges-of u))) (t .is) in
-          let n : l′ ≡ rows 0 nobody fs ++ drop (row-words * size fs) w = g ∙ write-all w (rows 0 nobody fs) m ∙ ap (λ (i : ℕ). rows 0 nobody fs ++ drop i w) b in
+          let n : l′ ≡ rows 0 nobody fs ++ drop (descriptor-words * size fs) w = g ∙ write-all w (rows 0 nobody fs) m ∙ ap (λ (i : ℕ). rows 0 nobody fs ++ drop i w) b in
           let c = t .count in
           let z : record { code = 0; at = e .at; steps = e .steps; needed = k; head = d; store = l′ } ≡ stored head (got (t .found) (place e)) w =
           rw y (λ i. record { code = 0; at = e .at; steps = e .steps; needed = c i; head = q i; store = n i }) in
@@ -125,7 +126,7 @@ module _ (head : List Value → answer.Header) (o : Out Found) (s w : List ℕ) 
 
 -- ---- one datagram
 
-pub at-start : (s : List ℕ) → length s ≤ 16777216 → Scan s (start-of 0) 0
+pub at-start : (s : List ℕ) → length s ≤ longest-input → Scan s (start-of 0) 0
 at-start s h = record { inside = omega arith; counted = omega arith; few = omega arith; short = h }
 
 pub inside-start : (s : List ℕ) → Inside s (start-of 0)
@@ -140,7 +141,7 @@ module _ (s : List ℕ) {e : Cursor} {k : ℕ} (q : Is-read s e k) where
   unfolding values-of
   head-values {d} {vs} (goes f i) =
       let a = known in
-      let t = split (times (last-number vs) (follow (sample 8)) s (place d)) _ (sym (begun s (start-of 0) d f) ∙ a .is) in
+      let t = split (times (last-number vs) (follow (sample depth-limit)) s (place d)) _ (sym (begun s (start-of 0) d f) ∙ a .is) in
       let g : got (whole 0 vs (t .value) (t .place)) (t .place) ≡ got (a .found) (place e) = t .second in
       let x : whole 0 vs (t .value) (t .place) ≡ a .found = cc in
       ap values-of (a .is) ∙ ap (λ (r : Found). r .values) (sym x)
@@ -168,11 +169,11 @@ module _ (s : List ℕ) {e : Cursor} {k : ℕ} (q : Is-read s e k) where
         record { leaves = λ m. ap (λ (x : answer.Header). record { code = 0; at = e .at; steps = e .steps; needed = k; head = x; store = m }) (sym (ap header-of f)) }
 
 module _ (s w : List ℕ) where
-  pub too-long : {d : Decoded} → Refuses d 1 0 0 0 → 16777216 < length s → decoded d w ≡ one s w
+  pub too-long : {d : Decoded} → Refuses d 1 0 0 0 → longest-input < length s → decoded d w ≡ one s w
   unfolding one
   too-long e h = e .leaves w ∙ beyond header-of (follow datagram s (from 0)) s w h
 
-  module _ (short : length s ≤ 16777216) {j : Scanned} (i : scanned-out j ≡ counted 0 (follow datagram s (from 0))) where
+  module _ (short : length s ≤ longest-input) {j : Scanned} (i : scanned-out j ≡ counted 0 (follow datagram s (from 0))) where
     pub stays : {x : Outcome} {d : Decoded} → j ≡ scanned.Stop x → Refuses d (x .code) (x .at) (x .steps) 0 → decoded d w ≡ one s w
     unfolding one
     stays {x} q e = e .leaves w ∙ stops header-of (follow datagram s (from 0)) s w short x (rw q at i)
@@ -203,7 +204,7 @@ module _ (s w : List ℕ) where
           let d : header-of (values-of (follow datagram s (from 0))) ≡ header-of (t .found .values) = ap (λ (u : Out Found). header-of (values-of u)) (t .is) in
           g .leaves l′ ∙ stores header-of (follow datagram s (from 0)) s w short e k t h (store-is (root 0) _ w f) d
 
-pub decoded-room : {l : List ℕ} (s w : List ℕ) (d : Decoded) → decoded d l ≡ one s w → length l ≡ length w → d .answer .code ≡ 0 → row-words * d .answer .needed ≤ length l
+pub decoded-room : {l : List ℕ} (s w : List ℕ) (d : Decoded) → decoded d l ≡ one s w → length l ≡ length w → d .answer .code ≡ 0 → descriptor-words * d .answer .needed ≤ length l
 unfolding one
 decoded-room {l} s w d e k c =
     let x : d .answer .code ≡ answered header-of (follow datagram s (from 0)) s w .code = ap (λ (r : answer.Answer). r .code) e in
@@ -215,11 +216,11 @@ pub ruleset deciding = (at-start, too-long, stays, is-read, no-room, all-ready, 
 
 -- ---- a run
 module _ (s w : List ℕ) where
-  pub run-too-long : 16777216 < length s → refused 1 0 0 0 w ≡ run s w
+  pub run-too-long : longest-input < length s → refused 1 0 0 0 w ≡ run s w
   unfolding run run-from
   run-too-long h = beyond (λ _. no-header) (run-from s (from 0)) s w h
 
-  module _ (short : length s ≤ 16777216) {m : Scanned} (i : scanned-out m ≡ counted 0 (run-from s (from 0))) where
+  module _ (short : length s ≤ longest-input) {m : Scanned} (i : scanned-out m ≡ counted 0 (run-from s (from 0))) where
     pub run-stays : {x : Outcome} → m ≡ scanned.Stop x → refused (x .code) (x .at) (x .steps) 0 w ≡ run s w
     unfolding run run-from
     run-stays {x} q = stops (λ _. no-header) (run-from s (from 0)) s w short x (rw q at i)
@@ -252,7 +253,7 @@ module _ (s w : List ℕ) where
 pub run-kept : {l′ : List ℕ} (w ws : List ℕ) → l′ ≡ write w 0 ws → length l′ ≡ length w
 run-kept w ws e = ap length e ∙ write-length w 0 ws
 
-pub ran-room : {l : List ℕ} (s w : List ℕ) (d : Answer) → ran d l ≡ run s w → length l ≡ length w → d .code ≡ 0 → row-words * d .needed ≤ length l
+pub ran-room : {l : List ℕ} (s w : List ℕ) (d : Answer) → ran d l ≡ run s w → length l ≡ length w → d .code ≡ 0 → descriptor-words * d .needed ≤ length l
 unfolding run run-from
 ran-room {l} s w d e k c =
     let x : d .code ≡ answered (λ _. no-header) (run-from s (from 0)) s w .code = ap (λ (r : answer.Answer). r .code) e in

@@ -12,7 +12,8 @@ use Rattle.reading.specs.Bytes.{be4}
 use Rattle.reading.specs.Script.{Value, Range, Forest, bare, tree, Found}
 use Rattle.reading.specs.Cursor.{Out, got, stop, then, times, follow}
 use Rattle.reading.specs.Layout.{version, addr, words, last-number, ranged, between, sample, header, datagram}
-use Rattle.reading.specs.Answer.{row-words, size, row-of, rows, from, nobody}
+use Rattle.reading.specs.Answer.{size, row-of, rows, from, nobody}
+use Rattle.reading.specs.Sizes.{descriptor-words, depth-limit}
 use Rattle.reading.proofs.Room.{whole, datagram-is, header-on}
 use Rattle.reading.proofs.Fields.{fields-out}
 use Rattle.reading.proofs.Words.{numbers}
@@ -39,10 +40,10 @@ use Rattle.datagram.specs.Shown.{Heads, root}
 
 module _ (s : List ℕ) (c : Cursor) where
   pub not-begun : (x : Outcome) → fields-out header s (place c) ≡ stop (x .code) (x .at) (x .steps) → follow datagram s (place c) ≡ stop (x .code) (x .at) (x .steps)
-  not-begun x e = datagram-is 8 s (place c) ∙ ap (λ (o : Out (List Value)). then o (λ vs q. then (times (last-number vs) (follow (sample 8)) s q) (λ r e. got (whole (c .at) vs r e) e))) e
+  not-begun x e = datagram-is 8 s (place c) ∙ ap (λ (o : Out (List Value)). then o (λ vs q. then (times (last-number vs) (follow (sample depth-limit)) s q) (λ r e. got (whole (c .at) vs r e) e))) e
 
-  pub begun : {vs : List Value} (d : Cursor) → fields-out header s (place c) ≡ got vs (place d) → follow datagram s (place c) ≡ then (times (last-number vs) (follow (sample 8)) s (place d)) (λ r e. got (whole (c .at) vs r e) e)
-  begun d e = datagram-is 8 s (place c) ∙ ap (λ (o : Out (List Value)). then o (λ vs q. then (times (last-number vs) (follow (sample 8)) s q) (λ r e. got (whole (c .at) vs r e) e))) e
+  pub begun : {vs : List Value} (d : Cursor) → fields-out header s (place c) ≡ got vs (place d) → follow datagram s (place c) ≡ then (times (last-number vs) (follow (sample depth-limit)) s (place d)) (λ r e. got (whole (c .at) vs r e) e)
+  begun d e = datagram-is 8 s (place c) ∙ ap (λ (o : Out (List Value)). then o (λ vs q. then (times (last-number vs) (follow (sample depth-limit)) s q) (λ r e. got (whole (c .at) vs r e) e))) e
 
 -- ---- the first pass
 
@@ -96,7 +97,7 @@ module _ (s : List ℕ) (c : Cursor) {r : WordsAt} (h : Heads s c r) where
           all (halts e) = e
 
   -- the datagram, by what stands behind it
-  pub scanned-all : (k : ℕ) {o : Out ℕ} → o ≡ rest-of (sample 8) s (r .passed) (be4 s (r .at + 12)) (k + 1) → o ≡ counted k (follow datagram s (place c))
+  pub scanned-all : (k : ℕ) {o : Out ℕ} → o ≡ rest-of (sample depth-limit) s (r .passed) (be4 s (r .at + 12)) (k + 1) → o ≡ counted k (follow datagram s (place c))
   unfolding counted rest-of size
   scanned-all k i = i ∙ go (r .passed) refl
     where
@@ -106,11 +107,11 @@ module _ (s : List ℕ) (c : Cursor) {r : WordsAt} (h : Heads s c r) where
           ap (λ (n : ℕ). got n i) z
       more vs (stop x a n) = refl
 
-      go : (p : Passed) → r .passed ≡ p → rest-of (sample 8) s p (be4 s (r .at + 12)) (k + 1) ≡ counted k (follow datagram s (place c))
+      go : (p : Passed) → r .passed ≡ p → rest-of (sample depth-limit) s p (be4 s (r .at + 12)) (k + 1) ≡ counted k (follow datagram s (place c))
       go (passed.Stop x) w = sym (ap (counted k) (not-begun s c x (halted w)))
       go (passed.Got d) w =
           let f = read w in
-          ap (λ (n : ℕ). counted (k + 1) (times n (follow (sample 8)) s (place d))) (sym (f .last)) ∙ more (f .values) (times (last-number (f .values)) (follow (sample 8)) s (place d)) ∙ sym (ap (counted k) (begun s c d (f .is)))
+          ap (λ (n : ℕ). counted (k + 1) (times n (follow (sample depth-limit)) s (place d))) (sym (f .last)) ∙ more (f .values) (times (last-number (f .values)) (follow (sample depth-limit)) s (place d)) ∙ sym (ap (counted k) (begun s c d (f .is)))
 
 pub heads : (s : List ℕ) (c : Cursor) {p q : Passed} {vs : List Value} {r : WordsAt} → Then (version ∷ []) s (passed.Got c) p vs → Ends (addr ∷ []) s p q → Then (words 4) s q (r .passed) (numbers 4 s (r .at)) → There 4 s (r .passed) (r .at) → Heads s c r
 heads s c {q = q} a (ends b) u t = record { behind = q; first = ends (both a b); rest = u; there = t }
@@ -128,16 +129,16 @@ module _ (s l : List ℕ) (at base : ℕ) (g : Ready s l (root base) (follow dat
     abbrev vs : List Value
     vs = read s (start-of at) h w .values
 
-    is : follow datagram s (from at) ≡ then (times n (follow (sample 8)) s (place d)) (λ r i. got (whole at vs r i) i)
+    is : follow datagram s (from at) ≡ then (times n (follow (sample depth-limit)) s (place d)) (λ r i. got (whole at vs r i) i)
     is =
         begun s (start-of at) d (read s (start-of at) h w .is)
-        ∙ ap (λ (m : ℕ). then (times m (follow (sample 8)) s (place d)) (λ r i. got (whole at vs r i) i)) (read s (start-of at) h w .last ∙ sym c)
+        ∙ ap (λ (m : ℕ). then (times m (follow (sample depth-limit)) s (place d)) (λ r i. got (whole at vs r i) i)) (read s (start-of at) h w .last ∙ sym c)
 
     ahead : (at ≤ d .at) × (d .at ≤ length s)
     ahead = let y = header-on s (from at) f (read s (start-of at) h w .is) in (omega (arith, y .0), y .1)
 
-    alike : Alike (times n (follow (sample 8)) s (place d)) (times n (follow (sample 8)) s (from (d .at)))
-    alike = steady-times (sample 8) s n (place d) (from (d .at)) refl
+    alike : Alike (times n (follow (sample depth-limit)) s (place d)) (times n (follow (sample depth-limit)) s (from (d .at)))
+    alike = steady-times (sample depth-limit) s n (place d) (from (d .at)) refl
 
     lies : (o u : Out Found) → Alike o u → Accepted (then o (λ r i. got (whole at vs r i) i))
         → Accepted u × (ranges-of (then o (λ r i. got (whole at vs r i) i)) ≡ ranged 0 0 0 at (between at (end-of u)) (ranges-of u)) × (end-of (then o (λ r i. got (whole at vs r i) i)) ≡ end-of u)
@@ -148,18 +149,18 @@ module _ (s l : List ℕ) (at base : ℕ) (g : Ready s l (root base) (follow dat
         (alike-accepted k accepted, rw (z, v), z)
     lies (stop c a n) u k y = absurd (stopped y)
 
-    laid : Accepted (times n (follow (sample 8)) s (from (d .at)))
-        × (ranges-of (follow datagram s (from at)) ≡ ranged 0 0 0 at (between at (end-of (times n (follow (sample 8)) s (from (d .at))))) (ranges-of (times n (follow (sample 8)) s (from (d .at)))))
-        × (end-of (follow datagram s (from at)) ≡ end-of (times n (follow (sample 8)) s (from (d .at))))
+    laid : Accepted (times n (follow (sample depth-limit)) s (from (d .at)))
+        × (ranges-of (follow datagram s (from at)) ≡ ranged 0 0 0 at (between at (end-of (times n (follow (sample depth-limit)) s (from (d .at))))) (ranges-of (times n (follow (sample depth-limit)) s (from (d .at)))))
+        × (end-of (follow datagram s (from at)) ≡ end-of (times n (follow (sample depth-limit)) s (from (d .at))))
     laid =
         let y = lies _ _ alike (subst Accepted is (g .good)) in
         (y .0, ap ranges-of is ∙ y .1, ap end-of is ∙ y .2)
 
-    sizes : size (ranges-of (follow datagram s (from at))) ≡ 1 + size (ranges-of (times n (follow (sample 8)) s (from (d .at))))
+    sizes : size (ranges-of (follow datagram s (from at))) ≡ 1 + size (ranges-of (times n (follow (sample depth-limit)) s (from (d .at))))
     unfolding size
     sizes = ap size (laid .1) ∙ add-zero _
 
-    pub samples-ready : Ready s l (a-pen base base row-words) (times n (follow (sample 8)) s (from (d .at)))
+    pub samples-ready : Ready s l (a-pen base base descriptor-words) (times n (follow (sample depth-limit)) s (from (d .at)))
     samples-ready =
         let k = sizes in
         record { short = g .short; good = laid .0; room = omega (arith, g .room); few = omega (arith, g .few) }
@@ -167,11 +168,11 @@ module _ (s l : List ℕ) (at base : ℕ) (g : Ready s l (root base) (follow dat
     pub start32 : Fits w32 at
     start32 = record { fits = omega (arith, f, g .short) }
 
-    module _ {a b : ℕ} {l′ : List ℕ} (i : a-put a b l′ ≡ placed (a-pen base base row-words) (times n (follow (sample 8)) s (from (d .at))) l) where
+    module _ {a b : ℕ} {l′ : List ℕ} (i : a-put a b l′ ≡ placed (a-pen base base descriptor-words) (times n (follow (sample depth-limit)) s (from (d .at))) l) where
       end-in : (d .at ≤ a) × (a ≤ length s)
       end-in =
-          let y = forward-times (sample 8) n s (d .at) (ahead .1) (laid .0) in
-          let k = at-is (a-pen base base row-words) _ l i in
+          let y = forward-times (sample depth-limit) n s (d .at) (ahead .1) (laid .0) in
+          let k = at-is (a-pen base base descriptor-words) _ l i in
           (omega (arith, y .0), omega (arith, y .1))
 
       pub end-forward : at ≤ a
@@ -180,30 +181,30 @@ module _ (s l : List ℕ) (at base : ℕ) (g : Ready s l (root base) (follow dat
       pub length32 : Fits w32 (a - at)
       length32 = record { fits = omega (arith, end-in .1, g .short) }
 
-      pub own-room : 0 + row-words ≤ length l′
-      own-room = let k = sizes in omega (arith, g .room, put-kept (a-pen base base row-words) _ l i)
+      pub own-room : 0 + descriptor-words ≤ length l′
+      own-room = let k = sizes in omega (arith, g .room, put-kept (a-pen base base descriptor-words) _ l i)
 
       abbrev own-range : Range
       own-range = record { kind = 0; format = 0; span = between at a; depth = 0; first = at }
 
       module _ {l″ : List ℕ} (q : l″ ≡ write l′ 0 (row-of nobody own-range)) where
         pub datagram-kept : length l″ ≡ length l
-        datagram-kept = ap length q ∙ write-length _ _ _ ∙ put-kept (a-pen base base row-words) _ l i
+        datagram-kept = ap length q ∙ write-length _ _ _ ∙ put-kept (a-pen base base descriptor-words) _ l i
 
         pub datagram-placed : a-put a b l″ ≡ placed (root base) (follow datagram s (from at)) l
         unfolding placed
         datagram-placed =
-            let x : a ≡ end-of (times n (follow (sample 8)) s (from (d .at))) = at-is (a-pen base base row-words) _ l i in
-            let y : b ≡ row-words + row-words * size (ranges-of (times n (follow (sample 8)) s (from (d .at)))) = word-is (a-pen base base row-words) _ l i in
-            let k : l′ ≡ write l (0 + row-words) (rows (index (held-by base 0)) (base + 0 / row-words) (ranges-of (times n (follow (sample 8)) s (from (d .at))))) =
-            store-is (a-pen base base row-words) _ l i ∙ ap (λ (m : ℕ). write l row-words (rows (base + 1) m (ranges-of (times n (follow (sample 8)) s (from (d .at)))))) (sym (add-zero base)) in
-            let t : tree own-range (ranges-of (times n (follow (sample 8)) s (from (d .at)))) bare ≡ ranges-of (follow datagram s (from at)) =
-            ap (λ (m : ℕ). ranged 0 0 0 at (between at m) (ranges-of (times n (follow (sample 8)) s (from (d .at))))) x ∙ sym (laid .1) in
+            let x : a ≡ end-of (times n (follow (sample depth-limit)) s (from (d .at))) = at-is (a-pen base base descriptor-words) _ l i in
+            let y : b ≡ descriptor-words + descriptor-words * size (ranges-of (times n (follow (sample depth-limit)) s (from (d .at)))) = word-is (a-pen base base descriptor-words) _ l i in
+            let k : l′ ≡ write l (0 + descriptor-words) (rows (index (held-by base 0)) (base + 0 / descriptor-words) (ranges-of (times n (follow (sample depth-limit)) s (from (d .at))))) =
+            store-is (a-pen base base descriptor-words) _ l i ∙ ap (λ (m : ℕ). write l descriptor-words (rows (base + 1) m (ranges-of (times n (follow (sample depth-limit)) s (from (d .at)))))) (sym (add-zero base)) in
+            let t : tree own-range (ranges-of (times n (follow (sample depth-limit)) s (from (d .at)))) bare ≡ ranges-of (follow datagram s (from at)) =
+            ap (λ (m : ℕ). ranged 0 0 0 at (between at m) (ranges-of (times n (follow (sample depth-limit)) s (from (d .at))))) x ∙ sym (laid .1) in
             let u : a ≡ end-of (follow datagram s (from at)) = x ∙ sym (laid .2) in
-            let m : b ≡ 0 + row-words * size (ranges-of (follow datagram s (from at))) = y ∙ rw sizes (omega arith) in
-            let z : l″ ≡ write l 0 (rows (base + 0 / row-words) nobody (ranges-of (follow datagram s (from at)))) =
-            own-last l base nobody 0 own-range (ranges-of (times n (follow (sample 8)) s (from (d .at)))) k q
-            ∙ ap (λ (o : Forest). write l 0 (rows (base + 0 / row-words) nobody o)) t in
+            let m : b ≡ 0 + descriptor-words * size (ranges-of (follow datagram s (from at))) = y ∙ rw sizes (omega arith) in
+            let z : l″ ≡ write l 0 (rows (base + 0 / descriptor-words) nobody (ranges-of (follow datagram s (from at)))) =
+            own-last l base nobody 0 own-range (ranges-of (times n (follow (sample depth-limit)) s (from (d .at)))) k q
+            ∙ ap (λ (o : Forest). write l 0 (rows (base + 0 / descriptor-words) nobody o)) t in
             λ j. record { at = u j; word = m j; store = z j }
 
 pub ruleset datagrams = (within-start, scan-inside, behind-cut, behind-last, counted-scan, last-there, last-fits, one-counts, heads-last, heads-within, scanned-all, header-there, samples-ready, start32, end-forward, length32, own-room, datagram-kept, datagram-placed, put-kept, needs)

@@ -10,7 +10,8 @@ use mir.Val.{Fits}
 use Rattle.reading.specs.Script.{Forest, Found}
 use Rattle.reading.specs.Cursor.{Place, Out, got, stop, follow}
 use Rattle.reading.specs.Layout.{datagram}
-use Rattle.reading.specs.Answer.{row-words, size, rows, from, nobody}
+use Rattle.reading.specs.Answer.{size, rows, from, nobody}
+use Rattle.reading.specs.Sizes.{descriptor-words}
 use Rattle.reading.proofs.Items.{never}
 use Rattle.reading.proofs.Room.{thrifty-datagram, datagram-on}
 use Rattle.reading.proofs.Runs.{run-from, run-over, run-got, run-ends, run-stops}
@@ -77,29 +78,29 @@ module _ (s l : List ℕ) (at w : ℕ) (g : Ready s l (pen-at w) (follow datagra
   pub part-start : w ≤ length l
   part-start = omega (arith, g .room)
 
-  pub part-index : 0 + w / row-words < 2 ^ 32
+  pub part-index : 0 + w / descriptor-words < 2 ^ 32
   part-index = omega (arith, g .few)
 
-  module _ {i : ℕ} (u : i ≡ 0 + w / row-words) where
+  module _ {i : ℕ} (u : i ≡ 0 + w / descriptor-words) where
     pub part-ready : Ready s (take (length l - w) (drop w l)) (root i) (follow datagram s (from at))
     part-ready =
         let m : length (rest l w) ≡ length l - w = ap length (rest-is l w) ∙ length-drop w l in
         record { short = g .short; good = g .good; room = omega (arith, g .room, m); few = omega (arith, g .few) }
 
     module _ {v : Written} {l′ : List ℕ} (e : written v l′ ≡ placed (root i) (follow datagram s (from at)) (take (length l - w) (drop w l))) where
-      more : v .word ≡ 0 + row-words * size (ranges-of (follow datagram s (from at)))
+      more : v .word ≡ 0 + descriptor-words * size (ranges-of (follow datagram s (from at)))
       more = word-is (root i) _ _ e
 
       pub part-more : Fits w64 (w + v .word)
       part-more = let y = more in record { fits = omega (arith, g .few) }
 
       module _ {l″ : List ℕ} (q : l″ ≡ take w l ++ (l′ ++ drop (length l - w) (drop w l))) where
-        joined : l″ ≡ write l w (rows (0 + w / row-words) nobody (ranges-of (follow datagram s (from at))))
+        joined : l″ ≡ write l w (rows (0 + w / descriptor-words) nobody (ranges-of (follow datagram s (from at))))
         joined =
-            let x : i + 0 / row-words ≡ 0 + w / row-words = omega arith in
-            let y : l′ ≡ write (rest l w) 0 (rows (0 + w / row-words) nobody (ranges-of (follow datagram s (from at)))) =
+            let x : i + 0 / descriptor-words ≡ 0 + w / descriptor-words = omega arith in
+            let y : l′ ≡ write (rest l w) 0 (rows (0 + w / descriptor-words) nobody (ranges-of (follow datagram s (from at)))) =
             store-is (root i) _ _ e ∙ ap (λ (m : ℕ). write (rest l w) 0 (rows m nobody (ranges-of (follow datagram s (from at))))) x in
-            q ∙ ap (λ (x : List ℕ). take w l ++ (x ++ drop (length l - w) (drop w l))) y ∙ write-rest l w (rows (0 + w / row-words) nobody (ranges-of (follow datagram s (from at)))) part-start
+            q ∙ ap (λ (x : List ℕ). take w l ++ (x ++ drop (length l - w) (drop w l))) y ∙ write-rest l w (rows (0 + w / descriptor-words) nobody (ranges-of (follow datagram s (from at)))) part-start
 
         pub part-kept : length l″ ≡ length l
         part-kept = ap length joined ∙ write-length _ _ _
@@ -108,7 +109,7 @@ module _ (s l : List ℕ) (at w : ℕ) (g : Ready s l (pen-at w) (follow datagra
         unfolding placed
         part-placed =
             let a = at-is (root i) _ _ e in
-            let b : w + v .word ≡ w + row-words * size (ranges-of (follow datagram s (from at))) = let y = more in omega arith in
+            let b : w + v .word ≡ w + descriptor-words * size (ranges-of (follow datagram s (from at))) = let y = more in omega arith in
             let c = joined in
             λ j. record { at = a j; word = b j; store = c j }
 
@@ -118,7 +119,7 @@ module _ (s l : List ℕ) (cur end w : ℕ) (g : Ready s l (pen-at w) (run-from 
   unfolding placed rows
   run-all m h e =
       let y = run-bare s cur i (g .good) (omega (arith, z)) in
-      sym (write-none l (w)) ∙ ap (λ (f : Forest). write l (w) (rows (0 + w / row-words) nobody f)) (sym y) ∙ ap (λ (p : Put). p .store) e
+      sym (write-none l (w)) ∙ ap (λ (f : Forest). write l (w) (rows (0 + w / descriptor-words) nobody f)) (sym y) ∙ ap (λ (p : Put). p .store) e
 
   module _ (h : cur < end) where
     parts : Run-at s cur
@@ -136,7 +137,7 @@ module _ (s l : List ℕ) (cur end w : ℕ) (g : Ready s l (pen-at w) (run-from 
       here : v .at ≡ end-of (follow datagram s (from cur))
       here = at-is (pen-at w) _ l e
 
-      next : v .word ≡ w + row-words * size (ranges-of (follow datagram s (from cur)))
+      next : v .word ≡ w + descriptor-words * size (ranges-of (follow datagram s (from cur)))
       next = word-is (pen-at w) _ l e
 
       pub next-less : (t : ℕ) → end - cur ≡ t → end - v .at < t

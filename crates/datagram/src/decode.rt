@@ -10,6 +10,7 @@ use layout::frames::Scanned;
 use store::DESCRIPTOR_WORDS;
 use xdr::Address;
 use xdr::Cursor;
+use xdr::MAX_INPUT_SIZE;
 use xdr::Passed;
 
 // What a call answers: document 01's code, the position, the steps, and the descriptors needed.
@@ -91,7 +92,7 @@ impl Decoded {
 pub fn decode(s: &[u8], store: &mut [u32]) -> Decoded
     ensures { λ r. ⌜ decoded r (now (store .exit)) ≡ one (now (s .entry)) (now (store .entry)) ⌝ }
 {
-    if 16777216 < s.len() {
+    if MAX_INPUT_SIZE < s.len() {
         return Decoded::refused(1, 0, 0, 0);
     }
     match scan_datagram(s, Cursor { at: 0, steps: 0 }, 0) {

@@ -2,6 +2,7 @@
 ghost use mathlib.Core.Path.{_≡_};
 ghost use Prim.Native.Nat.{_+_, _≤_};
 ghost use lib.ListN.{length};
+ghost use Rattle.reading.specs.Sizes.{depth-limit};
 ghost use Rattle.reading.specs.Bytes.{be4};
 ghost use Rattle.reading.specs.Cursor.{follow};
 ghost use Rattle.reading.specs.Layout.{datagram, sample};
@@ -31,7 +32,7 @@ use xdr::load;
 fn samples_behind(s: &[u8], row: WordsAt, count: usize) -> Scanned
     requires { ⌜ Counted (now s) (row .passed) (count + 1) ⌝ }
     requires { ⌜ Has-last (now s) (row .passed) (row .at) 12 ⌝ }
-    ensures { λ r. ⌜ scanned-out r ≡ rest-of (sample 8) (now (s .entry)) (row .passed) (be4 (now (s .entry)) (row .at + 12)) (count + 1) ⌝ }
+    ensures { λ r. ⌜ scanned-out r ≡ rest-of (sample depth-limit) (now (s .entry)) (row .passed) (be4 (now (s .entry)) (row .at + 12)) (count + 1) ⌝ }
 {
     let passed = row.passed;
     match passed {

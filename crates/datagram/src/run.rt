@@ -2,6 +2,7 @@
 ghost use mathlib.Core.Path.{_≡_};
 ghost use Prim.Native.Nat.{_≤_};
 ghost use lib.ListN.{length};
+ghost use Rattle.reading.specs.Sizes.{longest-input};
 ghost use Rattle.reading.specs.Cursor.{follow};
 ghost use Rattle.reading.specs.Layout.{datagram};
 ghost use Rattle.reading.specs.Answer.{from, nobody, rows, run};
@@ -20,10 +21,11 @@ use store::DESCRIPTOR_WORDS;
 use store::Written;
 use store::index_at;
 use xdr::Cursor;
+use xdr::MAX_INPUT_SIZE;
 
 // The first pass. Code 2 ends the run where the datagram that it stops began.
 fn scan_run(s: &[u8]) -> Scanned
-    requires { ⌜ length (now s) ≤ 16777216 ⌝ }
+    requires { ⌜ length (now s) ≤ longest-input ⌝ }
     ensures { λ r. ⌜ scanned-out r ≡ counted 0 (run-from (now (s .entry)) (from 0)) ⌝ }
 {
     let mut cur = Cursor { at: 0, steps: 0 };
@@ -83,7 +85,7 @@ fn put_run(s: &[u8], end: usize, store: &mut [u32])
 pub fn decode_run(s: &[u8], store: &mut [u32]) -> Answer
     ensures { λ r. ⌜ ran r (now (store .exit)) ≡ run (now (s .entry)) (now (store .entry)) ⌝ }
 {
-    if 16777216 < s.len() {
+    if MAX_INPUT_SIZE < s.len() {
         return Answer {
             code: 1,
             at: 0,

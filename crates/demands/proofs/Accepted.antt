@@ -8,7 +8,8 @@ use native.Mathlib.Nat.{zero-add}
 use lib.ListN.{length-append}
 use Rattle.reading.specs.Script.{Found}
 use Rattle.reading.specs.Cursor.{Place, Out, got, stop, follow}
-use Rattle.reading.specs.Layout.{depth-limit, datagram-to, datagram}
+use Rattle.reading.specs.Layout.{datagram-to, datagram}
+use Rattle.reading.specs.Sizes.{depth-limit}
 use Rattle.reading.specs.Answer.{limited, from, header-of, Answer, refused, stored, one}
 use Rattle.reading.proofs.Stands.{place}
 use Rattle.reading.proofs.Complete.{complete}

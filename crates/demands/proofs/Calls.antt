@@ -5,7 +5,8 @@ use mathlib.Core.List.{List}
 use native.Mathlib.Omega.{arith}
 use borrow.Author.Tests.{le-leb}
 use lib.ListN.{length, take}
-use Rattle.reading.specs.Answer.{limit, whole-span, payload}
+use Rattle.reading.specs.Answer.{whole-span, payload}
+use Rattle.reading.specs.Sizes.{longest-input}
 use Rattle.demands.specs.Calls.{Call, Public, decode, decode-run}
 use Rattle.demands.specs.Nested.{last, Row, row, all-of, whole-of}
 use Rattle.demands.specs.Itemised.{Subject}
@@ -37,9 +38,9 @@ unseen decode = record-unseen
 unseen decode-run = run-unseen
 
 -- all of what a descriptor stands for is given, where the input has it
-whole-had : (s : List ℕ) (r : Row) → length s ≤ limit → r .first ≤ r .span .start → last (r .span) ≤ length s → whole-of s r ≡ all-of r
+whole-had : (s : List ℕ) (r : Row) → length s ≤ longest-input → r .first ≤ r .span .start → last (r .span) ≤ length s → whole-of s r ≡ all-of r
 unfolding whole-span
-whole-had s r h k l = rw (le-leb (length s) limit h, le-leb (r .first) (r .span .start) k, le-leb (last (r .span)) (length s) l)
+whole-had s r h k l = rw (le-leb (length s) longest-input h, le-leb (r .first) (r .span .start) k, le-leb (last (r .span)) (length s) l)
 
 pub whole-there : {t : Subject} {c : Call} → Public t c → (s w : List ℕ) → c s w .code ≡ 0 → (i : ℕ) → i < c s w .needed → whole-of s (row (c s w .store) i) ≡ all-of (row (c s w .store) i)
 whole-there p s w z i h = let t = placed p s w z in whole-had s (row _ i) (accepted-reads (reads p) s w z .short) (t .first-before i h) (t .all-there i h)

@@ -10,7 +10,8 @@ use Rattle.reading.specs.Numbers.{known, header-protocols}
 use Rattle.reading.specs.Cursor.{read-item, follow}
 use Rattle.reading.specs.Layout.{address-of, run-of, field, fields, last-number, opened, flows, flow, samples, datagram-to}
 use Rattle.reading.specs.Values.{valued, reading}
-use Rattle.reading.specs.Answer.{limit, size, rows, header-of, no-header, Answer, Fields, stored, one, tried, datagrams, run, layout-of, answered, read}
+use Rattle.reading.specs.Answer.{size, rows, header-of, no-header, Answer, Fields, stored, one, tried, datagrams, run, layout-of, answered, read}
+use Rattle.reading.specs.Sizes.{longest-input}
 use Rattle.demands.specs.Codes.{one-codes, run-codes, field-codes, Each, none, also}
 use Rattle.demands.proofs.Itemised.{long-refused}
 use Rattle.demands.proofs.Accepted.{one-reads}
@@ -19,10 +20,10 @@ use Rattle.demands.proofs.FieldsItemised.{fields-too-long}
 use Rattle.demands.proofs.Impostors.{bytes-of, p2}
 
 -- an input of more than the limit
-some-long : (n : ℕ) → limit < n → (s : List ℕ) × (limit < length s)
+some-long : (n : ℕ) → longest-input < n → (s : List ℕ) × (longest-input < length s)
 some-long n h = (replicate n 0, rw (length-replicate {A = ℕ} n 0) h)
 
-long : (s : List ℕ) × (limit < length s)
+long : (s : List ℕ) × (longest-input < length s)
 long = some-long 16777217 (omega arith)
 
 -- a datagram with a flow sample of so many bytes, of one record

@@ -10,8 +10,9 @@ use Rattle.reading.specs.Utf8.{utf8, Longest}
 use Rattle.reading.specs.Numbers.{known}
 use Rattle.reading.specs.Script.{Value, Forest, Found, Script}
 use Rattle.reading.specs.Grammar.{Opaque, Many, Is}
-use Rattle.reading.specs.Layout.{Field, any-word, segment, depth-limit, datagram-to, datagram}
-use Rattle.reading.specs.Answer.{limit, nobody, row-words, size, room, no-header, Answer, refused, one, run, Fields, read, Listed, list-word, segment-at, payload}
+use Rattle.reading.specs.Layout.{Field, any-word, segment, datagram-to, datagram}
+use Rattle.reading.specs.Sizes.{longest-input, descriptor-words, depth-limit}
+use Rattle.reading.specs.Answer.{nobody, size, room, no-header, Answer, refused, one, run, Fields, read, Listed, list-word, segment-at, payload}
 use Rattle.demands.specs.Depths.{Shallow}
 use Rattle.demands.proofs.Limit.{no-deeper, same-reading}
 use Rattle.demands.specs.Readings.{Reading, Allowed}
@@ -79,7 +80,7 @@ module _ {t : Subject} {c : Call} (p : Public t c) (s w : List ℕ) where
   refusal-needs = kept (reads p) s w .refused-needed
 
   -- an acceptance leaves the words behind its descriptors, and the store its length
-  pub rest-stays : drop (row-words * c s w .needed) (c s w .store) ≡ drop (row-words * c s w .needed) w
+  pub rest-stays : drop (descriptor-words * c s w .needed) (c s w .store) ≡ drop (descriptor-words * c s w .needed) w
   rest-stays = kept (reads p) s w .behind
 
   pub length-stays : length (c s w .store) ≡ length w
@@ -166,18 +167,18 @@ module _ {t : Subject} {c : Call} (p : Public t c) (s w : List ℕ) where
   answered-exactly a = (λ e. subst (Itemised t s w) (sym e) (itemised (reads p) s w), only-itemised (reads p) s w)
 
   -- a reading that the store has room for is answered; there is one
-  pub read-is-accepted : {x : t .Finding} {end n : ℕ} → length s ≤ limit → t .Whole s x end n → size (t .ranges x) ≤ room w → Answers t w x end (c s w) × (c s w .steps ≡ n)
+  pub read-is-accepted : {x : t .Finding} {end n : ℕ} → length s ≤ longest-input → t .Whole s x end n → size (t .ranges x) ≤ room w → Answers t w x end (c s w) × (c s w .steps ≡ n)
   read-is-accepted = reading-answers (reads p) s w
 
   pub no-second-reading : {x y : t .Finding} {end last n m : ℕ} → t .Whole s x end n → t .Whole s y last m → (x ≡ y) × (end ≡ last) × (n ≡ m)
   no-second-reading = one-whole (reads p) s
 
   -- ---- the first fault: code 1 comes before all
-  pub too-long-first : limit < length s → c s w ≡ refused 1 0 0 0 w
+  pub too-long-first : longest-input < length s → c s w ≡ refused 1 0 0 0 w
   too-long-first = long-refused (reads p) s w
 
   -- then the first fault; there is one, and none where there is a reading
-  pub first-fault-answered : {k i n : ℕ} → length s ≤ limit → t .Stopped s k i n → c s w ≡ refused k i n 0 w
+  pub first-fault-answered : {k i n : ℕ} → length s ≤ longest-input → t .Stopped s k i n → c s w ≡ refused k i n 0 w
   first-fault-answered = fault-refused (reads p) s w
 
   pub first-fault-only : {k i n l j m : ℕ} → t .Stopped s k i n → t .Stopped s l j m → (k ≡ l) × (i ≡ j) × (n ≡ m)
@@ -217,11 +218,11 @@ module _ (s w : List ℕ) where
 
   -- ---- bytes that do not matter (`Pads`): of an input s that has a reading, change what the pads of its opaques and strings hold, and what is behind
   -- its end, and how long that is: the answer is the same, whatever the store
-  pub pads-do-not-matter : (t : List ℕ) {f : Found} {bytes items : ℕ} (r : Allowed 0 s f bytes items) → length s ≤ limit → length t ≤ limit → Same-but-pads r t → one t w ≡ one s w
+  pub pads-do-not-matter : (t : List ℕ) {f : Found} {bytes items : ℕ} (r : Allowed 0 s f bytes items) → length s ≤ longest-input → length t ≤ longest-input → Same-but-pads r t → one t w ≡ one s w
   pads-do-not-matter t = pads-free s t w
 
   -- nor to field reading (`PadFields`): whatever fields are asked for of a descriptor of s, they are answered of that input as of s
-  pub pads-do-not-matter-to-fields : (t : List ℕ) {f : Found} {bytes items : ℕ} (r : Allowed 0 s f bytes items) → one s w .code ≡ 0 → length t ≤ limit → Same-but-pads r t
+  pub pads-do-not-matter-to-fields : (t : List ℕ) {f : Found} {bytes items : ℕ} (r : Allowed 0 s f bytes items) → one s w .code ≡ 0 → length t ≤ longest-input → Same-but-pads r t
       → (i : ℕ) → i < one s w .needed → (ak af : ℕ)
       → let d = range (one s w .store) i in
       read ak af t (d .kind) (d .format) (d .span .start) (d .span .count) ≡ read ak af s (d .kind) (d .format) (d .span .start) (d .span .count)
@@ -288,7 +289,7 @@ module _ (s : List ℕ) where
   pub payload-exactly : (start extent : ℕ) (x : List ℕ) → (x ≡ payload s start extent) ↔ Payload-is s start extent x
   payload-exactly start extent x = (λ e. subst (Payload-is s start extent) (sym e) (payload-is s start extent), payload-only s start extent)
 
-  pub payload-of-opaque : {u x : List ℕ} (o : ℕ) → length s ≤ limit → Stands-at s o u → Opaque x u → payload s (o + 4) (length x) ≡ x
+  pub payload-of-opaque : {u x : List ℕ} (o : ℕ) → length s ≤ longest-input → Stands-at s o u → Opaque x u → payload s (o + 4) (length x) ≡ x
   payload-of-opaque = opaque-payload
 
   -- a word of a list is the one with so many words before it, and none where the list or the input has no such word
@@ -304,7 +305,7 @@ module _ (s : List ℕ) where
   pub segment-exactly : (at : ℕ) (a : Fields) → (a ≡ segment-at s at) ↔ Segment-itemised s at a
   segment-exactly at a = (λ e. subst (Segment-itemised s at) (sym e) (segment-is s at), segment-only s at)
 
-  pub segments-one-by-one : (at n : ℕ) (b : List ℕ) (f : Found) (k : ℕ) → length s ≤ limit → Stands-at s at b → Many (suc n) (Is segment) at b f k → First-of-segments s at n b
+  pub segments-one-by-one : (at n : ℕ) (b : List ℕ) (f : Found) (k : ℕ) → length s ≤ longest-input → Stands-at s at b → Many (suc n) (Is segment) at b f k → First-of-segments s at n b
   segments-one-by-one = first-segment s
 
 -- ==== the grammar: it knows no limit of depth (`Limit`), and its strings are RFC 3629's (`Characters`, by `Abnf`)

@@ -16,9 +16,10 @@ use Rattle.reading.specs.Numbers.{known}
 use Rattle.reading.specs.Script.{Value, Range, Forest, Found, nothing, Script, give}
 use Rattle.reading.specs.Cursor.{Place, got, follow}
 use Rattle.reading.specs.Grammar.{Is}
-use Rattle.reading.specs.Layout.{Row, pdu, flows, flow, samples, depth-limit, datagram}
+use Rattle.reading.specs.Layout.{Row, pdu, flows, flow, samples, datagram}
+use Rattle.reading.specs.Sizes.{longest-input, depth-limit}
 use Rattle.reading.specs.Values.{alone}
-use Rattle.reading.specs.Answer.{limit, from, nobody, rows, datagrams, layout-of}
+use Rattle.reading.specs.Answer.{from, nobody, rows, datagrams, layout-of}
 use Rattle.reading.proofs.Stands.{place, drop-take}
 use Rattle.reading.proofs.Fields.{fields-then}
 use Rattle.reading.proofs.Sound.{sound}
@@ -123,7 +124,7 @@ each s g rest h i l k =
     subst (Fields-are s g) (range-is w i)
     (fields-are s g (descriptor w i) (m .1) (h (descriptor w i) (m .0) (m .1) (ap (λ (r : Range). read-here (r .kind) (r .format)) (range-is w i) ∙ sym (has-fields-is (range w i .kind) (range w i .format)) ∙ k)))
 
-module _ (s : List ℕ) (short : length s ≤ limit) (a : Found) (q : Place) (rest : List ℕ) where
+module _ (s : List ℕ) (short : length s ≤ longest-input) (a : Found) (q : Place) (rest : List ℕ) where
   pub datagram-fields : follow datagram s (from 0) ≡ got a q → All-fields s (a .ranges) (rows 0 nobody (a .ranges) ++ rest)
   datagram-fields e = each s (a .ranges) rest (λ r inner. field-reading-accepts s short e)
 

@@ -18,7 +18,8 @@ use Rattle.reading.specs.Cursor.{Place, Out, got, stop, follow}
 use Rattle.reading.specs.Grammar.{Is}
 use Rattle.reading.specs.Layout.{Field}
 use Rattle.reading.specs.Values.{alone, valued, reading}
-use Rattle.reading.specs.Answer.{limit, from, layout-of, Fields, answered, unread, read}
+use Rattle.reading.specs.Answer.{from, layout-of, Fields, answered, unread, read}
+use Rattle.reading.specs.Sizes.{longest-input}
 use Rattle.reading.proofs.Items.{split}
 use Rattle.reading.proofs.Stands.{place, drop-take}
 use Rattle.reading.proofs.Bounds.{Owes, owes}
@@ -108,32 +109,32 @@ range-left s start extent fits = record { there = drop-take start extent s; fits
 module _ (ak af : ℕ) (s : List ℕ) (k f start extent : ℕ) where
   pub fields-itemised : Fields-itemised ak af s k f start extent (read ak af s k f start extent)
   unfolding read answered valued
-  fields-itemised = in-limit (leb (length s) limit) refl
+  fields-itemised = in-limit (leb (length s) longest-input) refl
     where
       l : List Field
       l = layout-of ak af
 
-      asked : (b d : Bool) → eqb k ak ≡ b → eqb f af ≡ d → length s ≤ limit → start + extent ≤ length s
+      asked : (b d : Bool) → eqb k ak ≡ b → eqb f af ≡ d → length s ≤ longest-input → start + extent ≤ length s
           → Fields-itemised ak af s k f start extent (answered (cond (b & d) (reading l (take (start + extent) s) (from start)) (unread l 11)))
       asked true true e g h i = held h i (eqb-true k ak e) (eqb-true f af g) (layout-held l (range-left s start extent i))
       asked true false e g h i = other h i (λ z. eqb-false f af g (z .1)) refl
       asked false d e g h i = other h i (λ z. eqb-false k ak e (z .0)) refl
 
-      in-range : (b : Bool) → leb (start + extent) (length s) ≡ b → length s ≤ limit
+      in-range : (b : Bool) → leb (start + extent) (length s) ≡ b → length s ≤ longest-input
           → Fields-itemised ak af s k f start extent (answered (cond b (cond (eqb k ak & eqb f af) (reading l (take (start + extent) s) (from start)) (unread l 11)) (unread l 10)))
       in-range true e h = asked (eqb k ak) (eqb f af) refl refl h (leb-true _ _ e)
       in-range false e h = passes h (leb-false _ _ e) refl
 
-      in-limit : (b : Bool) → leb (length s) limit ≡ b
+      in-limit : (b : Bool) → leb (length s) longest-input ≡ b
           → Fields-itemised ak af s k f start extent
           (answered (cond b (cond (leb (start + extent) (length s)) (cond (eqb k ak & eqb f af) (reading l (take (start + extent) s) (from start)) (unread l 11)) (unread l 10)) (unread l 1)))
       in-limit true e = in-range (leb (start + extent) (length s)) refl (leb-true _ _ e)
       in-limit false e = too-long (leb-false _ _ e) refl
 
   -- what is read, where the range is there and asked for its own kind and format
-  own-read : length s ≤ limit → start + extent ≤ length s → k ≡ ak → f ≡ af → read ak af s k f start extent ≡ answered (reading (layout-of ak af) (take (start + extent) s) (from start))
+  own-read : length s ≤ longest-input → start + extent ≤ length s → k ≡ ak → f ≡ af → read ak af s k f start extent ≡ answered (reading (layout-of ak af) (take (start + extent) s) (from start))
   unfolding read
-  own-read h i x y = rw (le-leb (length s) limit h, le-leb (start + extent) (length s) i, eq-eqb k ak x, eq-eqb f af y)
+  own-read h i x y = rw (le-leb (length s) longest-input h, le-leb (start + extent) (length s) i, eq-eqb k ak x, eq-eqb f af y)
 
   not-both : (b d : Bool) → eqb k ak ≡ b → eqb f af ≡ d → ((k ≡ ak) × (f ≡ af) → ⊥) → (b & d) ≡ false
   not-both true true x y n = absurd (n (eqb-true k ak x, eqb-true f af y))
@@ -141,16 +142,16 @@ module _ (ak af : ℕ) (s : List ℕ) (k f start extent : ℕ) where
   not-both false d x y n = refl
 
   -- code 1 before all
-  pub fields-too-long : limit < length s → read ak af s k f start extent ≡ no-fields (layout-of ak af) 1 0 0
+  pub fields-too-long : longest-input < length s → read ak af s k f start extent ≡ no-fields (layout-of ak af) 1 0 0
   unfolding read answered valued
-  fields-too-long h = rw (lt-leb (length s) limit h)
+  fields-too-long h = rw (lt-leb (length s) longest-input h)
 
   -- there is one such answer
   pub itemised-only : {a : Fields} → Fields-itemised ak af s k f start extent a → a ≡ read ak af s k f start extent
   unfolding read answered valued
   itemised-only (too-long h e) = e ∙ sym (fields-too-long h)
-  itemised-only (passes h i e) = e ∙ rw (le-leb (length s) limit h, lt-leb (start + extent) (length s) i)
-  itemised-only (other h i n e) = e ∙ rw (le-leb (length s) limit h, le-leb (start + extent) (length s) i, not-both (eqb k ak) (eqb f af) refl refl n)
+  itemised-only (passes h i e) = e ∙ rw (le-leb (length s) longest-input h, lt-leb (start + extent) (length s) i)
+  itemised-only (other h i n e) = e ∙ rw (le-leb (length s) longest-input h, le-leb (start + extent) (length s) i, not-both (eqb k ak) (eqb f af) refl refl n)
   itemised-only (held h i x y t) = held-only (layout-of ak af) (range-left s start extent i) t ∙ sym (own-read h i x y)
 
   -- four bytes of the range for each step

@@ -11,7 +11,8 @@ use lib.Seq.{length-take-le}
 use Rattle.reading.specs.Script.{Value, number, Range, Forest, _⊕_, Found, nothing, Item, word, Script, give, here, item, repeat}
 use Rattle.reading.specs.Grammar.{Opaque, Is-item, Many, Is}
 use Rattle.reading.specs.Layout.{num, Field, plain, mac, addr, list, segments, address-of, run-of, field, fields, Row, _⟼_, _⟼_each_, last-number, opened, ranged, between, framed, pdu, flows, flow, counter, samples, sample, header, datagram-to}
-use Rattle.reading.specs.Answer.{limit, nobody, row-words, size, rows, one, run, payload}
+use Rattle.reading.specs.Answer.{nobody, size, rows, one, run, payload}
+use Rattle.reading.specs.Sizes.{longest-input, descriptor-words}
 use Rattle.reading.proofs.Descriptors.{Among, this, inside, later, stands-in}
 use Rattle.demands.specs.DescriptorFields.{range}
 use Rattle.demands.specs.Parts.{Stands-at}
@@ -134,25 +135,25 @@ unfolding flows
 good-flows h =
     flat (flat (flat (flat (flat (flat (flat (flat (flat (flat (flat (flat (flat (flat (flat (flat (flat (flat (flat (counts h over-all)))))))))))))))))))
 
-good-flow : (limit left : ℕ) → Good (flow limit left)
+good-flow : (longest-input left : ℕ) → Good (flow longest-input left)
 unfolding flow Is
-good-flow limit zero = record { says = λ o u f k t. absurd t }
-good-flow limit (suc left) = good-framed 2 (limit - left) (good-opened (good-flows (good-pdu (limit - left) (good-flow limit left))))
+good-flow longest-input zero = record { says = λ o u f k t. absurd t }
+good-flow longest-input (suc left) = good-framed 2 (longest-input - left) (good-opened (good-flows (good-pdu (longest-input - left) (good-flow longest-input left))))
 
-good-sample : (limit : ℕ) → Good (sample limit)
+good-sample : (longest-input : ℕ) → Good (sample longest-input)
 unfolding samples
-good-sample limit =
-    let f : Good (flow limit limit) = good-flow limit limit in
+good-sample longest-input =
+    let f : Good (flow longest-input longest-input) = good-flow longest-input longest-input in
     let c : Good counter = good-framed 3 1 (good-opened over-all) in
     good-framed 1 0 (good-opened (counts f (counts c (counts f (counts c (counts f over-all))))))
 
-good-datagram : (limit o : ℕ) (u : List ℕ) (f : Found) (k : ℕ) → Is (datagram-to limit) o u f k → (s : List ℕ) → Stands-at s o u → Frames s (f .ranges)
+good-datagram : (longest-input o : ℕ) (u : List ℕ) (f : Found) (k : ℕ) → Is (datagram-to longest-input) o u f k → (s : List ℕ) → Stands-at s o u → Frames s (f .ranges)
 unfolding Is datagram-to
-good-datagram limit o u f k t = good-fields header (λ vs. samples-of o vs) .says o u f k t
+good-datagram longest-input o u f k t = good-fields header (λ vs. samples-of o vs) .says o u f k t
   where
-    samples-of : (a : ℕ) (vs : List Value) → Good (repeat (last-number vs) (sample limit) (λ r. here (λ e. give (record { values = vs; ranges = ranged 0 0 0 a (between a e) (r .ranges) }))))
+    samples-of : (a : ℕ) (vs : List Value) → Good (repeat (last-number vs) (sample longest-input) (λ r. here (λ e. give (record { values = vs; ranges = ranged 0 0 0 a (between a e) (r .ranges) }))))
     samples-of a vs = record {
-      says = λ o u f k (x, y, b, i, j, e, en, many, (ey, ef, ej)) s h. found-as ef (also (λ m n. absurd (omega arith)) (good-many (good-sample limit) (last-number vs) _ _ _ _ many s (front x y e h)) none);
+      says = λ o u f k (x, y, b, i, j, e, en, many, (ey, ef, ej)) s h. found-as ef (also (λ m n. absurd (omega arith)) (good-many (good-sample longest-input) (last-number vs) _ _ _ _ many s (front x y e h)) none);
     }
 
 good-run-of : (s : List ℕ) {at end n : ℕ} {g : Forest} → Run s at g end n → Frames s g
@@ -166,7 +167,7 @@ good-run-of s {at} (next f bytes items h m d e z t) =
 good-run-of s (cut h i t e z) = rw z none
 
 -- ---- the payload that is answered is what the opaque holds
-pub frame-payload : (s : List ℕ) (r : Range) → length s ≤ limit → (f : Frame-at s r) → payload s (r .span .start) (r .span .count) ≡ f .payload
+pub frame-payload : (s : List ℕ) (r : Range) → length s ≤ longest-input → (f : Frame-at s r) → payload s (r .span .start) (r .span .count) ≡ f .payload
 unfolding Is-item
 frame-payload s r h f =
     let o = r .first in
@@ -191,10 +192,10 @@ module _ (s w : List ℕ) where
       let r = a .reading .reading in
       let b = r .begins in
       subst (λ (t : List ℕ). Frame s (range t i)) (sym (a .answers .store))
-      (in-store s (a .found .ranges) (drop (row-words * size (a .found .ranges)) w)
+      (in-store s (a .found .ranges) (drop (descriptor-words * size (a .found .ranges)) w)
       (good-datagram (r .levels) 0 (b .read) (a .found) (a .items) (b .is) s (record { before = []; after = b .rest; joined = b .joined; long = refl })) i (rw (a .answers .needed) at l))
 
   pub run-frames : run s w .code ≡ 0 → (i : ℕ) → i < run s w .needed → Frame s (range (run s w .store) i)
   run-frames z i l =
       let a = accepted-reads run-reads s w z in
-      subst (λ (t : List ℕ). Frame s (range t i)) (sym (a .answers .store)) (in-store s (a .found) (drop (row-words * size (a .found)) w) (good-run-of s (a .reading)) i (rw (a .answers .needed) at l))
+      subst (λ (t : List ℕ). Frame s (range t i)) (sym (a .answers .store)) (in-store s (a .found) (drop (descriptor-words * size (a .found)) w) (good-run-of s (a .reading)) i (rw (a .answers .needed) at l))

@@ -9,7 +9,8 @@ use Rattle.reading.specs.Bytes.{be4}
 use Rattle.reading.specs.Numbers.{known, header-protocols}
 use Rattle.reading.specs.Cursor.{read-item, follow}
 use Rattle.reading.specs.Layout.{address-of, run-of, field, fields, last-number, opened, flows, flow, samples, datagram-to}
-use Rattle.reading.specs.Answer.{row-words, size, rows, header-of, no-header, Answer, stored, one, tried, datagrams, run}
+use Rattle.reading.specs.Answer.{size, rows, header-of, no-header, Answer, stored, one, tried, datagrams, run}
+use Rattle.reading.specs.Sizes.{descriptor-words}
 use Rattle.demands.specs.Itemised.{Subject, a-datagram, a-run, Accepted}
 use Rattle.demands.specs.Calls.{Call}
 use Rattle.demands.specs.Demanded.{Accepts-exactly, Answers-reading, Counts-items}
@@ -42,7 +43,7 @@ spoilt = p2 ++ replicate 24 0
 
 -- a store for a quarter of each
 abbrev lent : List ℕ
-lent = replicate (12 * row-words) 165
+lent = replicate (12 * descriptor-words) 165
 
 -- ---- what is computed of them
 

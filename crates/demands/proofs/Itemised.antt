@@ -9,7 +9,8 @@ use borrow.Author.Tests.{le-leb, lt-leb, leb-true, leb-false}
 use lib.Dec.{leb}
 use lib.ListN.{length, take, drop}
 use Rattle.reading.specs.Cursor.{Place, Out, got, stop}
-use Rattle.reading.specs.Answer.{limit, limited, nobody, row-words, size, rows, room, Answer, refused}
+use Rattle.reading.specs.Answer.{limited, nobody, size, rows, room, Answer, refused}
+use Rattle.reading.specs.Sizes.{longest-input, descriptor-words}
 use Rattle.reading.proofs.Items.{never}
 use Rattle.reading.proofs.Stands.{place}
 use Rattle.reading.proofs.Faults.{Sure, fault}
@@ -20,7 +21,7 @@ use Rattle.demands.specs.Demanded.{Accepts-exactly, Answers-reading, Cou
 -- the answer where a finding is accepted
 abbrev taken : (t : Subject) → List ℕ → t .Finding → (end items : ℕ) → Answer
 taken t w x end n =
-    record { code = 0; at = end; steps = n; needed = size (t .ranges x); head = t .head x; store = rows 0 nobody (t .ranges x) ++ drop (row-words * size (t .ranges x)) w }
+    record { code = 0; at = end; steps = n; needed = size (t .ranges x); head = t .head x; store = rows 0 nobody (t .ranges x) ++ drop (descriptor-words * size (t .ranges x)) w }
 
 taken-answers : (t : Subject) (w : List ℕ) (x : t .Finding) (end n : ℕ) → Answers t w x end (taken t w x end n)
 taken-answers t w x end n = record { code = refl; at = refl; needed = refl; head = refl; store = refl }
@@ -54,9 +55,9 @@ module _ {t : Subject} {f : Call} (r : Reads t f) where
   -- ---- every answer is one of four
   pub itemised : (s w : List ℕ) → Itemised t s w (f s w)
   unfolding shown
-  itemised s w = subst (Itemised t s w) (sym (r .answer s w)) (go (leb (length s) limit) refl)
+  itemised s w = subst (Itemised t s w) (sym (r .answer s w)) (go (leb (length s) longest-input) refl)
     where
-      short : length s ≤ limit → {o : Out (t .Finding)} → Says t s o → Itemised t s w (shown t o w)
+      short : length s ≤ longest-input → {o : Out (t .Finding)} → Says t s o → Itemised t s w (shown t o w)
       short h (stopped k) = faulty h _ _ _ k refl
       short h (read {x} {q} k) = roomy (leb (size (t .ranges x)) (room w)) refl
         where
@@ -64,7 +65,7 @@ module _ {t : Subject} {f : Call} (r : Reads t f) where
           roomy true b = whole (record { short = h; found = x; end = q .at; items = q .steps; reading = k; fits = leb-true _ _ b; answers = taken-answers t w x (q .at) (q .steps) }) refl
           roomy false b = no-room h x (q .at) (q .steps) k (leb-false _ _ b) refl
 
-      go : (b : Bool) → leb (length s) limit ≡ b → Itemised t s w (cond b (shown t (r .outcome s) w) (refused 1 0 0 0 w))
+      go : (b : Bool) → leb (length s) longest-input ≡ b → Itemised t s w (cond b (shown t (r .outcome s) w) (refused 1 0 0 0 w))
       go true b = short (leb-true _ _ b) (r .says s)
       go false b = too-long (leb-false _ _ b) refl
 
@@ -78,7 +79,7 @@ module _ {t : Subject} {f : Call} (r : Reads t f) where
       go a (no-room h x end n k l e) = rw e last
       go a (whole k e) = rw (k .answers .code) accepted
 
-  pub by-items : (P : ℕ → Type 0) (s w : List ℕ) → (limit < length s → P 0) → ((c i n : ℕ) → t .Stopped s c i n → P n) → ((x : t .Finding) (end n : ℕ) → t .Whole s x end n → P n) → P (f s w .steps)
+  pub by-items : (P : ℕ → Type 0) (s w : List ℕ) → (longest-input < length s → P 0) → ((c i n : ℕ) → t .Stopped s c i n → P n) → ((x : t .Finding) (end n : ℕ) → t .Whole s x end n → P n) → P (f s w .steps)
   by-items P s w none stops all = go (f s w) (itemised s w)
     where
       go : (a : Answer) → Itemised t s w a → P (a .steps)
@@ -90,23 +91,23 @@ module _ {t : Subject} {f : Call} (r : Reads t f) where
   -- ---- and no other answer is
   pub only-itemised : (s w : List ℕ) {a : Answer} → Itemised t s w a → a ≡ f s w
   unfolding shown
-  only-itemised s w (too-long h e) = e ∙ sym (r .answer s w ∙ rw (lt-leb (length s) limit h))
-  only-itemised s w (faulty h c i n k e) = e ∙ sym (r .answer s w ∙ rw (le-leb (length s) limit h, r .is-stopped s c i n k))
-  only-itemised s w (no-room h x end n k l e) = e ∙ sym (r .answer s w ∙ rw (le-leb (length s) limit h, r .is-read s x end n k, lt-leb (size (t .ranges x)) (room w) l))
+  only-itemised s w (too-long h e) = e ∙ sym (r .answer s w ∙ rw (lt-leb (length s) longest-input h))
+  only-itemised s w (faulty h c i n k e) = e ∙ sym (r .answer s w ∙ rw (le-leb (length s) longest-input h, r .is-stopped s c i n k))
+  only-itemised s w (no-room h x end n k l e) = e ∙ sym (r .answer s w ∙ rw (le-leb (length s) longest-input h, r .is-read s x end n k, lt-leb (size (t .ranges x)) (room w) l))
   only-itemised s w {a} (whole k m) =
       let b = k .answers in
       let z : a ≡ taken t w (k .found) (k .end) (k .items) = λ i. record { code = b .code i; at = b .at i; steps = m i; needed = b .needed i; head = b .head i; store = b .store i } in
-      z ∙ sym (r .answer s w ∙ rw (le-leb (length s) limit (k .short), r .is-read s (k .found) (k .end) (k .items) (k .reading), le-leb (size (t .ranges (k .found))) (room w) (k .fits)))
+      z ∙ sym (r .answer s w ∙ rw (le-leb (length s) longest-input (k .short), r .is-read s (k .found) (k .end) (k .items) (k .reading), le-leb (size (t .ranges (k .found))) (room w) (k .fits)))
 
   -- ---- so each is given where it is due: code 1 before all, then the first fault
-  pub long-refused : (s w : List ℕ) → limit < length s → f s w ≡ refused 1 0 0 0 w
+  pub long-refused : (s w : List ℕ) → longest-input < length s → f s w ≡ refused 1 0 0 0 w
   long-refused s w h = sym (only-itemised s w (too-long h refl))
 
-  pub fault-refused : (s w : List ℕ) {c i n : ℕ} → length s ≤ limit → t .Stopped s c i n → f s w ≡ refused c i n 0 w
+  pub fault-refused : (s w : List ℕ) {c i n : ℕ} → length s ≤ longest-input → t .Stopped s c i n → f s w ≡ refused c i n 0 w
   fault-refused s w h k = sym (only-itemised s w (faulty h _ _ _ k refl))
 
   -- a reading that the store has room for is answered
-  pub reading-answers : (s w : List ℕ) {x : t .Finding} {end n : ℕ} → length s ≤ limit → t .Whole s x end n → size (t .ranges x) ≤ room w → Answers t w x end (f s w) × (f s w .steps ≡ n)
+  pub reading-answers : (s w : List ℕ) {x : t .Finding} {end n : ℕ} → length s ≤ longest-input → t .Whole s x end n → size (t .ranges x) ≤ room w → Answers t w x end (f s w) × (f s w .steps ≡ n)
   reading-answers s w {x} {end} {n} h k l =
       let a = taken-answers t w x end n in
       subst (λ (b : Answer). Answers t w x end b × (b .steps ≡ n)) (only-itemised s w (whole (record { short = h; found = x; end = end; items = n; reading = k; fits = l; answers = a }) refl)) (a, refl)

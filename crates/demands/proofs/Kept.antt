@@ -5,7 +5,8 @@ use mathlib.Core.List.{List}
 use native.Mathlib.Omega.{arith}
 use lib.ListN.{length, drop, length-append, length-drop}
 use lib.Seq.{drop-at}
-use Rattle.reading.specs.Answer.{nobody, row-words, size, rows, no-header, Answer, refused}
+use Rattle.reading.specs.Answer.{nobody, size, rows, no-header, Answer, refused}
+use Rattle.reading.specs.Sizes.{descriptor-words}
 use Rattle.reading.proofs.Stored.{rows-length}
 use Rattle.demands.specs.Itemised.{Subject, Itemised, too-long, faulty, no-room, whole}
 use Rattle.demands.specs.Calls.{Call}
@@ -18,7 +19,7 @@ pub record Kept (w : List ℕ) (a : Answer) : Type 0 where
   pub refused-head : (a .code ≡ 0 → ⊥) → a .head ≡ no-header
   pub refused-needed : (a .code ≡ 0 → ⊥) → (a .code ≡ 9 → ⊥) → a .needed ≡ 0
   -- the words behind the descriptors stay
-  pub behind : drop (row-words * a .needed) (a .store) ≡ drop (row-words * a .needed) w
+  pub behind : drop (descriptor-words * a .needed) (a .store) ≡ drop (descriptor-words * a .needed) w
   pub words : length (a .store) ≡ length w
 
 refusal-kept : (c i n k : ℕ) (w : List ℕ) → ((c ≡ 9 → ⊥) → k ≡ 0) → Kept w (refused c i n k w)
@@ -39,6 +40,6 @@ kept {t} {f} r s w = go (f s w) (itemised r s w)
           refused-store = λ z. absurd (z (b .code));
           refused-head = λ z. absurd (z (b .code));
           refused-needed = λ z. absurd (z (b .code));
-          behind = rw (b .needed, b .store) (drop-at (rows 0 nobody g) (drop (row-words * size g) w) (row-words * size g) l);
-          words = rw (b .store) (length-append (rows 0 nobody g) (drop (row-words * size g) w) ∙ rw (l, length-drop) (omega (arith, k .fits)));
+          behind = rw (b .needed, b .store) (drop-at (rows 0 nobody g) (drop (descriptor-words * size g) w) (descriptor-words * size g) l);
+          words = rw (b .store) (length-append (rows 0 nobody g) (drop (descriptor-words * size g) w) ∙ rw (l, length-drop) (omega (arith, k .fits)));
         }

@@ -11,7 +11,8 @@ use lib.Dec.{eqb, leb}
 use lib.ListN.{length, take}
 use Rattle.reading.specs.Script.{Value, Range, Forest, _⊕_, Found, nothing, Script, give}
 use Rattle.reading.specs.Cursor.{Place, Out, got, stop, Reader, times, follow}
-use Rattle.reading.specs.Layout.{Field, fields, Row, _⟼_, _⟼_each_, last-number, opened, ranged, between, framed, pdu, flows, flow, counter, samples, sample, header, depth-limit, datagram-to, datagram}
+use Rattle.reading.specs.Layout.{Field, fields, Row, _⟼_, _⟼_each_, last-number, opened, ranged, between, framed, pdu, flows, flow, counter, samples, sample, header, datagram-to, datagram}
+use Rattle.reading.specs.Sizes.{depth-limit}
 use Rattle.reading.specs.Answer.{tried, datagrams}
 use Rattle.demands.specs.Nested.{end, last, Level, top, inside, Kind-at, Led, inner-from, Nested, none, next}
 use Rattle.demands.proofs.Aligned.{Words, no-pad, and-then, Aligned, aligned-flow, aligned-sample, aligned-times, aligned-header}

@@ -11,9 +11,10 @@ use lib.Seq.{take-take, length-take-le}
 use Rattle.reading.specs.Utf8.{_&_}
 use Rattle.reading.specs.Script.{four, eight, sixteen, Value, octets, address, part, Range, Forest, bare, tree, _⊕_, Found, nothing, Item, word, tested, block, Script, give, item, within, repeat}
 use Rattle.reading.specs.Cursor.{Place, Out, got, then, read-item, times, held-to, follow}
-use Rattle.reading.specs.Layout.{num, oct, Field, plain, mac, addr, list, segments, address-of, any-word, segment, run-of, field, fields, Row, _⟼_, _⟼_each_, last-number, opened, only, ranged, framed, pdu, flows, flow, counter, samples, sample, header, depth-limit, datagram-to, datagram}
+use Rattle.reading.specs.Layout.{num, oct, Field, plain, mac, addr, list, segments, address-of, any-word, segment, run-of, field, fields, Row, _⟼_, _⟼_each_, last-number, opened, only, ranged, framed, pdu, flows, flow, counter, samples, sample, header, datagram-to, datagram}
+use Rattle.reading.specs.Sizes.{longest-input, descriptor-words, depth-limit}
 use Rattle.reading.specs.Values.{alone, valued, reading}
-use Rattle.reading.specs.Answer.{limit, from, nobody, row-words, size, room, one, unread, layout-at, layout-of, answered, read}
+use Rattle.reading.specs.Answer.{from, nobody, size, room, one, unread, layout-at, layout-of, answered, read}
 use Rattle.reading.proofs.Items.{never}
 use Rattle.reading.proofs.Stands.{place}
 use Rattle.reading.proofs.Fields.{address-out, run-out, field-out, fields-out, fields-then}
@@ -237,12 +238,12 @@ opens-flow : (inner : Script) → Good inner → (f : ℕ) → Opens (layout-of 
 unfolding layout-of flows
 opens-flow inner g = opens-rows (good-flows inner g)
 
-good-flow : (limit left : ℕ) → Good (flow limit left)
+good-flow : (longest-input left : ℕ) → Good (flow longest-input left)
 unfolding flow follow
-good-flow limit zero = λ s t p a q b. never (b .reads)
-good-flow limit (suc left) =
-    let d = limit - left in
-    good-framed 2 d (opened (flows (pdu d (flow limit left)))) (opens-flow (pdu d (flow limit left)) (good-pdu d (flow limit left) (good-flow limit left)))
+good-flow longest-input zero = λ s t p a q b. never (b .reads)
+good-flow longest-input (suc left) =
+    let d = longest-input - left in
+    good-framed 2 d (opened (flows (pdu d (flow longest-input left)))) (opens-flow (pdu d (flow longest-input left)) (good-pdu d (flow longest-input left) (good-flow longest-input left)))
 
 good-sample : (levels : ℕ) → Good (sample levels)
 unfolding samples layout-of
@@ -290,11 +291,11 @@ good-datagram levels s t p a q b =
 abbrev pub Read-alike : (s t : List ℕ) → Range → Type 0
 Read-alike s t r = (ak af : ℕ) → read ak af t (r .kind) (r .format) (r .span .start) (r .span .count) ≡ read ak af s (r .kind) (r .format) (r .span .start) (r .span .count)
 
-read-alike : (s t : List ℕ) (r : Range) → length s ≤ limit → length t ≤ limit → Same-fields s t r → Read-alike s t r
+read-alike : (s t : List ℕ) (r : Range) → length s ≤ longest-input → length t ≤ longest-input → Same-fields s t r → Read-alike s t r
 unfolding read reading
 read-alike s t r h k f ak af =
     let x = r .span .start + r .span .count in
-    rw (le-leb (length s) limit h, le-leb (length t) limit k, le-leb x (length s) (f .in-s), le-leb x (length t) (f .in-t))
+    rw (le-leb (length s) longest-input h, le-leb (length t) longest-input k, le-leb x (length s) (f .in-s), le-leb x (length t) (f .in-t))
     (asked (eqb (r .kind) ak) (eqb (r .format) af) (eqb-true (r .kind) ak) (eqb-true (r .format) af))
   where
     asked : (b c : Bool) → (b ≡ true → r .kind ≡ ak) → (c ≡ true → r .format ≡ af)
@@ -305,12 +306,12 @@ read-alike s t r h k f ak af =
     asked false c i j = refl
 
 -- of each descriptor of an accepted input
-pub pads-free-fields : (s t w : List ℕ) {f : Found} {bytes items : ℕ} (r : Allowed 0 s f bytes items) → one s w .code ≡ 0 → length t ≤ limit → Same-but-pads r t
+pub pads-free-fields : (s t w : List ℕ) {f : Found} {bytes items : ℕ} (r : Allowed 0 s f bytes items) → one s w .code ≡ 0 → length t ≤ longest-input → Same-but-pads r t
     → (i : ℕ) → i < one s w .needed → Read-alike s t (range (one s w .store) i)
 pads-free-fields s t w {f} {bytes} {items} r z k b i h =
     let a = accepted-reads one-reads s w z in
     let e = good-datagram (r .reading .levels) s t (from 0) f (place bytes items) (reading-alike r b) in
     let g = f .ranges in
     let u = reading-answers one-reads s w (a .short) r (subst (λ (x : Found). size (x .ranges) ≤ room w) (one-whole one-reads s (a .reading) r .0) (a .fits)) in
-    let m = stands-in g 0 nobody i (drop (row-words * size g) w) (rw (u .0 .needed) at h) in
+    let m = stands-in g 0 nobody i (drop (descriptor-words * size g) w) (rw (u .0 .needed) at h) in
     subst (λ (l : List ℕ). Read-alike s t (range l i)) (sym (u .0 .store)) (subst (Read-alike s t) (range-is _ i) (read-alike s t _ (a .short) k (each-of e (m .1))))

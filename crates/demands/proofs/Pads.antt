@@ -13,7 +13,8 @@ use Rattle.reading.specs.Bytes.{be4, padded}
 use Rattle.reading.specs.Utf8.{utf8}
 use Rattle.reading.specs.Grammar.{Is}
 use Rattle.reading.specs.Script.{Span, Value, part, Found, _&&_, Item, word, tested, long, int, block, opaque, string, Script, give, refuse, here, item, within, repeat}
-use Rattle.reading.specs.Cursor.{Place, Out, got, stop, Reader, fixed, max-opaque, awaited, bytes, ill-at, read-opaque, read-item, times, held-to, inside, follow}
+use Rattle.reading.specs.Cursor.{Place, Out, got, stop, Reader, fixed, awaited, bytes, ill-at, read-opaque, read-item, times, held-to, inside, follow}
+use Rattle.reading.specs.Sizes.{longest-input, longest-opaque, depth-limit}
 use Rattle.reading.proofs.Items.{never, split, held-to-end, Opaque-read, opaque-read}
 use Rattle.reading.proofs.Stands.{place, Stands}
 use Rattle.reading.proofs.SoundItems.{sound-item}
@@ -22,8 +23,8 @@ use Rattle.reading.proofs.Complete.{complete-item}
 use Rattle.reading.proofs.Bounds.{Owes, owes, owes-item}
 use Rattle.reading.proofs.Counts.{repeat-is}
 use Rattle.reading.proofs.Room.{last-place}
-use Rattle.reading.specs.Layout.{depth-limit, datagram-to, datagram}
-use Rattle.reading.specs.Answer.{limit, from, one}
+use Rattle.reading.specs.Layout.{datagram-to, datagram}
+use Rattle.reading.specs.Answer.{from, one}
 use Rattle.demands.specs.Readings.{Allowed}
 use Rattle.demands.specs.Pads.{Same-but-pads}
 use Rattle.demands.proofs.Limit.{no-deeper}
@@ -278,7 +279,7 @@ module _ (s t : List ℕ) where
     span-again x r e =
         let n : be4 t (p .at) ≡ x .count = e ∙ r .count in
         let k : p .at + (4 + padded (x .count)) ≤ length t = rw (r .at) at room in
-        rw (le-leb (p .at + 4) (length t) (omega arith), n, le-leb (x .count) max-opaque (r .small), le-leb (p .at + awaited (x .count)) (length t) (omega arith))
+        rw (le-leb (p .at + 4) (length t) (omega arith), n, le-leb (x .count) longest-opaque (r .small), le-leb (p .at + awaited (x .count)) (length t) (omega arith))
         (λ j. got (record { start = sym (r .start) j; count = x .count }) (record { at = sym (r .at) j; steps = sym (r .steps) j }))
 
     -- a byte of a length word or a payload
@@ -530,9 +531,9 @@ reading-again {s} {t} {f} {bytes} {items} r b =
 
 module _ (s t w : List ℕ) where
   -- two inputs within the limit that are read alike are answered alike
-  alike-answered : length s ≤ limit → length t ≤ limit → follow datagram t (from 0) ≡ follow datagram s (from 0) → one t w ≡ one s w
+  alike-answered : length s ≤ longest-input → length t ≤ longest-input → follow datagram t (from 0) ≡ follow datagram s (from 0) → one t w ≡ one s w
   unfolding one
-  alike-answered h k e = rw (le-leb (length s) limit h, le-leb (length t) limit k, e)
+  alike-answered h k e = rw (le-leb (length s) longest-input h, le-leb (length t) longest-input k, e)
 
-  pub pads-free : {f : Found} {bytes items : ℕ} (r : Allowed 0 s f bytes items) → length s ≤ limit → length t ≤ limit → Same-but-pads r t → one t w ≡ one s w
+  pub pads-free : {f : Found} {bytes items : ℕ} (r : Allowed 0 s f bytes items) → length s ≤ longest-input → length t ≤ longest-input → Same-but-pads r t → one t w ≡ one s w
   pads-free r h k b = let q = reading-again r b in alike-answered h k (given depth-limit t (q .reading) (q .shallow) ∙ sym (given depth-limit s (r .reading) (r .shallow)))

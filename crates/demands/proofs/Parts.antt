@@ -15,7 +15,8 @@ use Rattle.reading.specs.Script.{Span, Value, number, part, Found, nothing}
 use Rattle.reading.specs.Grammar.{Opaque, Is-item, Many, Is}
 use Rattle.reading.specs.Layout.{num, any-word, segment, field, fields, run-of}
 use Rattle.reading.specs.Values.{alone, valued, reading}
-use Rattle.reading.specs.Answer.{limit, from, Fields, answered, unread, no-span, Listed, list-word, segment-fields, segment-at, payload-span, payload}
+use Rattle.reading.specs.Answer.{from, Fields, answered, unread, no-span, Listed, list-word, segment-fields, segment-at, payload-span, payload}
+use Rattle.reading.specs.Sizes.{longest-input}
 use Rattle.reading.proofs.Stands.{Stands, be4-here, payload-there, bytes-there, back}
 use Rattle.demands.specs.FieldsItemised.{only-values, read-whole}
 use Rattle.demands.specs.Parts.{Stands-at, Payload-is, whole, empty, Word-at, Listed-is, present, absent, Segment-itemised, too-long, passes, held, First-of-segments}
@@ -49,12 +50,12 @@ part-long s at n h = length-take-le n (drop at s) (rw length-drop (omega arith))
 module _ (s : List ℕ) (start extent : ℕ) where
   pub payload-is : Payload-is s start extent (payload s start extent)
   unfolding payload payload-span
-  payload-is = go (leb (length s) limit) (leb (start + extent) (length s)) refl refl
+  payload-is = go (leb (length s) longest-input) (leb (start + extent) (length s)) refl refl
     where
       at : Span → List ℕ
       at x = take (x .count) (drop (x .start) s)
 
-      go : (b d : Bool) → leb (length s) limit ≡ b → leb (start + extent) (length s) ≡ d → Payload-is s start extent (at (cond b (cond d (record { start = start; count = extent }) no-span) no-span))
+      go : (b d : Bool) → leb (length s) longest-input ≡ b → leb (start + extent) (length s) ≡ d → Payload-is s start extent (at (cond b (cond d (record { start = start; count = extent }) no-span) no-span))
       go true true e f = let h = leb-true _ _ f in let c = cut s start extent h in whole (leb-true _ _ e) c (part-long s start extent h)
       go true false e f = empty (inr (leb-false _ _ f)) refl
       go false d e f = empty (inl (leb-false _ _ e)) refl
@@ -64,16 +65,16 @@ module _ (s : List ℕ) (start extent : ℕ) where
   unfolding payload payload-span
   payload-only {x} (whole h st e) =
       let t = stands st in
-      rw (le-leb (length s) limit h, le-leb (start + extent) (length s) (omega (arith, t .fits))) (sym (ap (λ (n : ℕ). take n (drop start s)) (sym e) ∙ bytes-there start t))
-  payload-only (empty (inl l) e) = e ∙ rw (lt-leb (length s) limit l)
-  payload-only (empty (inr l) e) = e ∙ rw (lt-leb (start + extent) (length s) l) (go (leb (length s) limit))
+      rw (le-leb (length s) longest-input h, le-leb (start + extent) (length s) (omega (arith, t .fits))) (sym (ap (λ (n : ℕ). take n (drop start s)) (sym e) ∙ bytes-there start t))
+  payload-only (empty (inl l) e) = e ∙ rw (lt-leb (length s) longest-input l)
+  payload-only (empty (inr l) e) = e ∙ rw (lt-leb (start + extent) (length s) l) (go (leb (length s) longest-input))
     where
       go : (b : Bool) → [] ≡ take (cond b no-span no-span .count) (drop (cond b no-span no-span .start) s)
       go true = refl
       go false = refl
 
 -- of an opaque that stands at o it is what that holds
-pub opaque-payload : {s u x : List ℕ} (o : ℕ) → length s ≤ limit → Stands-at s o u → Opaque x u → payload s (o + 4) (length x) ≡ x
+pub opaque-payload : {s u x : List ℕ} (o : ℕ) → length s ≤ longest-input → Stands-at s o u → Opaque x u → payload s (o + 4) (length x) ≡ x
 opaque-payload {s} {u} {x} o h st q =
     let p = payload-there o q (stands st) in
     sym (payload-only s (o + 4) (length x) (whole h (subst (Stands-at s (o + 4)) (bytes-there (o + 4) (p .1)) (cut s (o + 4) (length x) (p .1 .fits))) refl))
@@ -168,15 +169,15 @@ left-at : (s : List ℕ) (at : ℕ) → at ≤ length s → Left s at (drop at s
 left-at s at h = record { there = refl; fits = h }
 
 module _ (s : List ℕ) (at : ℕ) where
-  own-segment : length s ≤ limit → at ≤ length s → segment-at s at ≡ answered (reading segment-fields s (from at))
+  own-segment : length s ≤ longest-input → at ≤ length s → segment-at s at ≡ answered (reading segment-fields s (from at))
   unfolding segment-at
-  own-segment h i = rw (le-leb (length s) limit h, le-leb at (length s) i)
+  own-segment h i = rw (le-leb (length s) longest-input h, le-leb at (length s) i)
 
   pub segment-is : Segment-itemised s at (segment-at s at)
   unfolding segment-at answered valued
-  segment-is = go (leb (length s) limit) (leb at (length s)) refl refl
+  segment-is = go (leb (length s) longest-input) (leb at (length s)) refl refl
     where
-      go : (b d : Bool) → leb (length s) limit ≡ b → leb at (length s) ≡ d → Segment-itemised s at (answered (cond b (cond d (reading segment-fields s (from at)) (unread segment-fields 10)) (unread segment-fields 1)))
+      go : (b d : Bool) → leb (length s) longest-input ≡ b → leb at (length s) ≡ d → Segment-itemised s at (answered (cond b (cond d (reading segment-fields s (from at)) (unread segment-fields 10)) (unread segment-fields 1)))
       go true true e f = let h = leb-true at (length s) f in held (leb-true _ _ e) h (layout-held segment-fields (left-at s at h))
       go true false e f = passes (leb-true _ _ e) (leb-false _ _ f) refl
       go false d e f = too-long (leb-false _ _ e) refl
@@ -184,8 +185,8 @@ module _ (s : List ℕ) (at : ℕ) where
   -- and nothing else is
   pub segment-only : {a : Fields} → Segment-itemised s at a → a ≡ segment-at s at
   unfolding segment-at answered valued
-  segment-only (too-long h e) = e ∙ rw (lt-leb (length s) limit h)
-  segment-only (passes h i e) = e ∙ rw (le-leb (length s) limit h, lt-leb at (length s) i)
+  segment-only (too-long h e) = e ∙ rw (lt-leb (length s) longest-input h)
+  segment-only (passes h i e) = e ∙ rw (le-leb (length s) longest-input h, lt-leb at (length s) i)
   segment-only (held h i t) = held-only segment-fields (left-at s at i) t ∙ sym (own-segment h i)
 
 -- a segment of the layout, as the fields of one
@@ -196,7 +197,7 @@ segment-values o b f n (x, y, v, m, e, k, i, (u, w, c, l, d, j, g, (p, q, a, r, 
   (x, y, v, m, e, k, i, (u, w, c, l, d, j, g, (p, q, a, r, t, h, z, many, (none, refl, over)))),
 )
 
-pub first-segment : (s : List ℕ) (at n : ℕ) (b : List ℕ) (f : Found) (k : ℕ) → length s ≤ limit → Stands-at s at b → Many (suc n) (Is segment) at b f k → First-of-segments s at n b
+pub first-segment : (s : List ℕ) (at n : ℕ) (b : List ℕ) (f : Found) (k : ℕ) → length s ≤ longest-input → Stands-at s at b → Many (suc n) (Is segment) at b f k → First-of-segments s at n b
 unfolding Many
 first-segment s at n b f k short st (x, y, g, h, m, l, e, _, _, one, rest) =
     let v = segment-values at x g m one in

@@ -9,6 +9,7 @@ use borrow.Author.Tests.{leb-true, leb-false}
 use lib.Dec.{leb}
 use lib.ListN.{length, take, drop, length-drop}
 use lib.Seq.{drop-drop, drop-at, getD-drop}
+use Rattle.reading.specs.Sizes.{longest-opaque}
 use Rattle.reading.specs.Bytes.{be4, padded}
 use Rattle.reading.specs.Utf8.{utf8, well-formed, Longest}
 use Rattle.reading.proofs.Utf8Longest.{longest, longest-short}
@@ -87,19 +88,19 @@ module _ (s : List ℕ) (p : Place) (i : p .at ≤ length s) {c a n : ℕ} where
       w : ℕ
       w = be4 s (p .at)
 
-      small : (u : Bool) → leb w 104857600 ≡ u → p .at + 4 ≤ length s
+      small : (u : Bool) → leb w longest-opaque ≡ u → p .at + 4 ≤ length s
           → cond u (fixed {A = Span} (4 + padded w) (record { start = p .at + 4; count = w }) s p) (stop 5 (p .at) (p .steps)) ≡ stop c a n → At-once (No-opaque (drop (p .at) s)) p c a n
       small true u l e =
           let f = fixed-short {A = Span} (4 + padded w) (record { start = p .at + 4; count = w }) e in
-          let b = leb-true w 104857600 u in
+          let b = leb-true w longest-opaque u in
           record { why = cut (omega (arith, length-drop (p .at) s)) (omega (arith, word-drop s (p .at))) (rw (← word-drop s (p .at)) (f .why .0)) (f .why .1); at = f .at; steps = f .steps }
-      small false u l e = let b = leb-false w 104857600 u in record { why = too-long (omega (arith, length-drop (p .at) s)) (omega (arith, word-drop s (p .at))) cc; at = cc; steps = cc }
+      small false u l e = let b = leb-false w longest-opaque u in record { why = too-long (omega (arith, length-drop (p .at) s)) (omega (arith, word-drop s (p .at))) cc; at = cc; steps = cc }
 
       go : (t : Bool) → leb (p .at + 4) (length s) ≡ t
           → then (cond t (got w (on 4 p)) (stop 2 (p .at) (p .steps))) (λ m q.
-          cond (leb m 104857600) (fixed {A = Span} (4 + padded m) (record { start = q .at; count = m }) s p) (stop 5 (p .at) (p .steps))) ≡ stop c a n
+          cond (leb m longest-opaque) (fixed {A = Span} (4 + padded m) (record { start = q .at; count = m }) s p) (stop 5 (p .at) (p .steps))) ≡ stop c a n
           → At-once (No-opaque (drop (p .at) s)) p c a n
-      go true t e = small (leb w 104857600) refl (leb-true (p .at + 4) (length s) t) e
+      go true t e = small (leb w longest-opaque) refl (leb-true (p .at + 4) (length s) t) e
       go false t e = let l = leb-false (p .at + 4) (length s) t in record { why = no-length (omega (arith, length-drop (p .at) s)) cc; at = cc; steps = cc }
 
   string-short : (o : Out Span) → read-opaque s p ≡ o → then o (λ x q. cond (utf8 (bytes s x)) (got (part x) q) (stop 7 (ill-at s x) (p .steps))) ≡ stop c a n → Short s p c a n string

@@ -11,8 +11,9 @@ use lib.Dec.{leb}
 use lib.ListN.{length, drop}
 use Rattle.reading.specs.Script.{Value, Forest, bare, tree, Found}
 use Rattle.reading.specs.Cursor.{Place, Out, got, stop, follow}
-use Rattle.reading.specs.Layout.{depth-limit, datagram}
-use Rattle.reading.specs.Answer.{limit, limited, from, nobody, row-words, size, rows, room, Header, header-of, no-header, Answer, refused, stored, one, datagrams, run}
+use Rattle.reading.specs.Layout.{datagram}
+use Rattle.reading.specs.Sizes.{longest-input, descriptor-words, depth-limit}
+use Rattle.reading.specs.Answer.{limited, from, nobody, size, rows, room, Header, header-of, no-header, Answer, refused, stored, one, datagrams, run}
 use Rattle.reading.proofs.Items.{either}
 use Rattle.reading.proofs.Stored.{rows-length}
 use Rattle.reading.proofs.Room.{datagram-on}
@@ -129,18 +130,18 @@ Placed s a = a .code ≡ 0 → In-place (a .store) (a .needed) (length s)
 
 module _ (s w : List ℕ) where
   stored-placed : (head : List Value → Header) (o : Out Found) → Sure o → ((a : Found) (q : Place) → o ≡ got a q → Nested top 0 (length s) (a .ranges))
-      → ((a : Found) (q : Place) → o ≡ got a q → 4 * size (a .ranges) ≤ length s) → length s ≤ limit → Placed s (stored head o w)
+      → ((a : Found) (q : Place) → o ≡ got a q → 4 * size (a .ranges) ≤ length s) → length s ≤ longest-input → Placed s (stored head o w)
   unfolding stored
   stored-placed head (got a q) t n f short =
       let k = f a q refl in
-      either (Placed s) (leb (size (a .ranges)) (room w)) (λ z. rows-in-place (a .ranges) (n a q refl) (omega arith) (drop (row-words * size (a .ranges)) w)) (λ z. absurd (omega arith))
+      either (Placed s) (leb (size (a .ranges)) (room w)) (λ z. rows-in-place (a .ranges) (n a q refl) (omega arith) (drop (descriptor-words * size (a .ranges)) w)) (λ z. absurd (omega arith))
   stored-placed head (stop c a n) (fault k) m f short = λ z. absurd (omega arith)
 
-  within-limit : (x : Answer) → (length s ≤ limit → Placed s x) → Placed s (limited s x (refused 1 0 0 0 w))
-  within-limit x h = go (leb (length s) limit) refl
+  within-limit : (x : Answer) → (length s ≤ longest-input → Placed s x) → Placed s (limited s x (refused 1 0 0 0 w))
+  within-limit x h = go (leb (length s) longest-input) refl
     where
-      go : (b : Bool) → leb (length s) limit ≡ b → Placed s (cond b x (refused 1 0 0 0 w))
-      go true e = h (leb-true (length s) limit e)
+      go : (b : Bool) → leb (length s) longest-input ≡ b → Placed s (cond b x (refused 1 0 0 0 w))
+      go true e = h (leb-true (length s) longest-input e)
       go false e = λ z. absurd (omega arith)
 
   pub one-placed : Placed s (one s w)

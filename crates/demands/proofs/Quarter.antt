@@ -6,7 +6,8 @@ use native.Mathlib.Omega.{arith}
 use lib.ListN.{length}
 use Rattle.reading.specs.Script.{Found}
 use Rattle.reading.specs.Cursor.{Place, got, follow}
-use Rattle.reading.specs.Layout.{depth-limit, datagram}
+use Rattle.reading.specs.Layout.{datagram}
+use Rattle.reading.specs.Sizes.{depth-limit}
 use Rattle.reading.specs.Answer.{from, size, datagrams}
 use Rattle.reading.proofs.Bounds.{Owes, owes}
 use Rattle.reading.proofs.Room.{thrifty-datagram}

@@ -6,6 +6,7 @@ use mathlib.Core.List.{List, _++_}
 use native.Mathlib.Omega.{arith}
 use borrow.Author.Tests.{le-leb, lt-leb}
 use lib.ListN.{length, drop, length-drop, length-append}
+use Rattle.reading.specs.Sizes.{longest-opaque}
 use Rattle.reading.specs.Bytes.{be4, padded}
 use Rattle.reading.specs.Script.{octet-count, Found, _&&_, Item, string}
 use Rattle.reading.specs.Cursor.{Place, got, stop, Reader, then, fixed, bytes, read-opaque, read-item, times}
@@ -52,11 +53,11 @@ module _ {s b : List ℕ} {o : ℕ} (h : Left s o b) (k : ℕ) where
   opaque-missing (too-long f l e) =
       let z = left-long h in
       let w = left-word h in
-      rw (le-leb (o + 4) (length s) (omega (arith, z, h .fits)), lt-leb (be4 s o) 104857600 (omega (arith, w)), e)
+      rw (le-leb (o + 4) (length s) (omega (arith, z, h .fits)), lt-leb (be4 s o) longest-opaque (omega (arith, w)), e)
   opaque-missing (cut f l m e) =
       let z = left-long h in
       let w = left-word h in
-      rw (le-leb (o + 4) (length s) (omega (arith, z, h .fits)), le-leb (be4 s o) 104857600 (omega (arith, w)), e) (fixed-missing (4 + padded (be4 s o)) _ (rw w m))
+      rw (le-leb (o + 4) (length s) (omega (arith, z, h .fits)), le-leb (be4 s o) longest-opaque (omega (arith, w)), e) (fixed-missing (4 + padded (be4 s o)) _ (rw w m))
 
   pub item-missing : {c : ℕ} {i : Item} → No-item b c i → read-item i s (place o k) ≡ stop c o k
   unfolding read-item

@@ -10,7 +10,8 @@ use lib.Dec.{leb, eqb}
 use lib.ListN.{length, drop, length-drop, length-append}
 use Rattle.reading.specs.Script.{Forest, bare, _⊕_, Found, nothing}
 use Rattle.reading.specs.Cursor.{Place, Out, got, stop, then, follow}
-use Rattle.reading.specs.Layout.{only, depth-limit, datagram}
+use Rattle.reading.specs.Layout.{only, datagram}
+use Rattle.reading.specs.Sizes.{depth-limit}
 use Rattle.reading.specs.Answer.{tried, datagrams}
 use Rattle.reading.proofs.Stands.{place}
 use Rattle.reading.proofs.Sound.{sound}

@@ -9,18 +9,19 @@ use lib.ListN.{take, drop, getD}
 use Rattle.reading.specs.Numbers.{known}
 use Rattle.reading.specs.Script.{Value, Range, Forest, tree, Found, nothing, Script, give, repeat}
 use Rattle.reading.specs.Grammar.{Is}
-use Rattle.reading.specs.Layout.{Row, last-number, pdu, flows, flow, samples, sample, depth-limit}
-use Rattle.reading.specs.Answer.{row-words, size, layout-of, read}
+use Rattle.reading.specs.Layout.{Row, last-number, pdu, flows, flow, samples, sample}
+use Rattle.reading.specs.Sizes.{descriptor-words, depth-limit}
+use Rattle.reading.specs.Answer.{size, layout-of, read}
 use Rattle.demands.specs.FieldsItemised.{Fields-reading}
 
 -- the range that the descriptor with this index stands for
 unfoldable pub range : (store : List ℕ) → (index : ℕ) → Range
 range w i = record {
-  kind = getD w (row-words * i + 0) 0;
-  format = getD w (row-words * i + 1) 0;
-  span = record { start = getD w (row-words * i + 2) 0; count = getD w (row-words * i + 3) 0 };
-  depth = getD w (row-words * i + 5) 0;
-  first = getD w (row-words * i + 6) 0;
+  kind = getD w (descriptor-words * i + 0) 0;
+  format = getD w (descriptor-words * i + 1) 0;
+  span = record { start = getD w (descriptor-words * i + 2) 0; count = getD w (descriptor-words * i + 3) 0 };
+  depth = getD w (descriptor-words * i + 5) 0;
+  first = getD w (descriptor-words * i + 6) 0;
 }
 
 -- document 01's formats: of the samples that are opened, and of the flow records

@@ -6,7 +6,8 @@ use lib.ListN.{length, take, drop}
 use Rattle.reading.specs.Script.{Value, bare, Found}
 use Rattle.reading.specs.Layout.{Field}
 use Rattle.reading.specs.Values.{zeros, alone}
-use Rattle.reading.specs.Answer.{limit, layout-of, Fields}
+use Rattle.reading.specs.Answer.{layout-of, Fields}
+use Rattle.reading.specs.Sizes.{longest-input}
 use Rattle.demands.specs.Stops.{Stops}
 use Rattle.demands.specs.Readings.{Begins}
 
@@ -29,14 +30,14 @@ pub data Held (l : List Field) (start : ℕ) (b : List ℕ) (a : Fields) : Type 
 
 -- what each answer says, to a descriptor of this kind, format and range, asked for the fields of another kind and format
 pub data Fields-itemised (ak af : ℕ) (s : List ℕ) (k f start extent : ℕ) (a : Fields) : Type 0 where
-  too-long : limit < length s → a ≡ no-fields (layout-of ak af) 1 0 0 → Fields-itemised ak af s k f start extent a
-  passes : length s ≤ limit → length s < start + extent → a ≡ no-fields (layout-of ak af) 10 0 0 → Fields-itemised ak af s k f start extent a
-  other : length s ≤ limit → start + extent ≤ length s → ((k ≡ ak) × (f ≡ af) → ⊥) → a ≡ no-fields (layout-of ak af) 11 0 0 → Fields-itemised ak af s k f start extent a
-  held : length s ≤ limit → start + extent ≤ length s → k ≡ ak → f ≡ af → Held (layout-of ak af) start (take extent (drop start s)) a → Fields-itemised ak af s k f start extent a
+  too-long : longest-input < length s → a ≡ no-fields (layout-of ak af) 1 0 0 → Fields-itemised ak af s k f start extent a
+  passes : length s ≤ longest-input → length s < start + extent → a ≡ no-fields (layout-of ak af) 10 0 0 → Fields-itemised ak af s k f start extent a
+  other : length s ≤ longest-input → start + extent ≤ length s → ((k ≡ ak) × (f ≡ af) → ⊥) → a ≡ no-fields (layout-of ak af) 11 0 0 → Fields-itemised ak af s k f start extent a
+  held : length s ≤ longest-input → start + extent ≤ length s → k ≡ ak → f ≡ af → Held (layout-of ak af) start (take extent (drop start s)) a → Fields-itemised ak af s k f start extent a
 
 -- the fields asked for are read: s is not too long, the range is in it, the kind and the format are those asked for, and in the range there is a reading
 pub record Fields-read (ak af : ℕ) (s : List ℕ) (k f start extent : ℕ) (vs : List Value) (bytes items : ℕ) : Type 0 where
-  pub short : length s ≤ limit
+  pub short : length s ≤ longest-input
   pub lies : start + extent ≤ length s
   pub kind : k ≡ ak
   pub format : f ≡ af

@@ -6,7 +6,8 @@ use mathlib.Core.List.{List, _++_}
 use lib.ListN.{length, drop}
 use Rattle.reading.specs.Script.{Forest, Found}
 use Rattle.reading.specs.Layout.{datagram}
-use Rattle.reading.specs.Answer.{limit, nobody, row-words, size, rows, room, Header, header-of, no-header, Answer, refused}
+use Rattle.reading.specs.Answer.{nobody, size, rows, room, Header, header-of, no-header, Answer, refused}
+use Rattle.reading.specs.Sizes.{longest-input, descriptor-words}
 use Rattle.demands.specs.Stops.{Stops}
 use Rattle.demands.specs.Readings.{Allowed}
 use Rattle.demands.specs.Tries.{Run, Run-stops}
@@ -35,11 +36,11 @@ module _ (t : Subject) where
     pub at : a .at ≡ end
     pub needed : a .needed ≡ size (t .ranges x)
     pub head : a .head ≡ t .head x
-    pub store : a .store ≡ rows 0 nobody (t .ranges x) ++ drop (row-words * size (t .ranges x)) w
+    pub store : a .store ≡ rows 0 nobody (t .ranges x) ++ drop (descriptor-words * size (t .ranges x)) w
 
   -- what code 0 says: s is not too long, there is a reading of it, the store has room for that, and it is answered
   pub record Accepted (s w : List ℕ) (a : Answer) : Type 0 where
-    pub short : length s ≤ limit
+    pub short : length s ≤ longest-input
     pub found : t .Finding
     pub end : ℕ
     pub items : ℕ
@@ -50,10 +51,10 @@ module _ (t : Subject) where
   -- what each answer to s and w says of the reading of s
   pub data Itemised (s w : List ℕ) (a : Answer) : Type 0 where
     -- s is too long: no item is read
-    too-long : limit < length s → a ≡ refused 1 0 0 0 w → Itemised s w a
+    too-long : longest-input < length s → a ≡ refused 1 0 0 0 w → Itemised s w a
     -- the reading stops at a fault: the steps are the items before it, in a run those of every datagram tried
-    faulty : length s ≤ limit → (c i n : ℕ) → t .Stopped s c i n → a ≡ refused c i n 0 w → Itemised s w a
+    faulty : length s ≤ longest-input → (c i n : ℕ) → t .Stopped s c i n → a ≡ refused c i n 0 w → Itemised s w a
     -- there is a whole reading, for which the store has no room: the steps are its items, the descriptors needed are its ranges
-    no-room : length s ≤ limit → (x : t .Finding) (end n : ℕ) → t .Whole s x end n → room w < size (t .ranges x) → a ≡ refused 9 0 n (size (t .ranges x)) w → Itemised s w a
+    no-room : length s ≤ longest-input → (x : t .Finding) (end n : ℕ) → t .Whole s x end n → room w < size (t .ranges x) → a ≡ refused 9 0 n (size (t .ranges x)) w → Itemised s w a
     -- there is one, and the answer is that reading's: so are the steps
     whole : (k : Accepted s w a) → a .steps ≡ k .items → Itemised s w a

@@ -6,7 +6,8 @@ use mathlib.Core.List.{List}
 use lib.ListN.{getD}
 use Rattle.reading.specs.Bytes.{padded}
 use Rattle.reading.specs.Script.{Span, Range, Forest, bare, tree}
-use Rattle.reading.specs.Answer.{nobody, row-words, whole-span}
+use Rattle.reading.specs.Answer.{nobody, whole-span}
+use Rattle.reading.specs.Sizes.{descriptor-words}
 
 -- where a range ends, and where all of what it is the range of does: behind the pad
 abbrev pub end : Span → ℕ
@@ -56,10 +57,10 @@ pub record Row : Type 0 where
 
 unfoldable pub row : (store : List ℕ) → (index : ℕ) → Row
 row w i = record {
-  kind = getD w (row-words * i + 0) 0;
-  span = record { start = getD w (row-words * i + 2) 0; count = getD w (row-words * i + 3) 0 };
-  parent = getD w (row-words * i + 4) 0;
-  first = getD w (row-words * i + 6) 0;
+  kind = getD w (descriptor-words * i + 0) 0;
+  span = record { start = getD w (descriptor-words * i + 2) 0; count = getD w (descriptor-words * i + 3) 0 };
+  parent = getD w (descriptor-words * i + 4) 0;
+  first = getD w (descriptor-words * i + 6) 0;
 }
 
 -- all of what a descriptor stands for, from its first byte to the end of its pad; and what is answered of it

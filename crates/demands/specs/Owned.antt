@@ -7,7 +7,8 @@ use Rattle.reading.specs.Script.{Value, Forest, Found, Script, give, refuse, he
 use Rattle.reading.specs.Grammar.{Meaning, Many, Is}
 use Rattle.reading.specs.Layout.{datagram-to, datagram}
 use Rattle.reading.specs.Values.{alone}
-use Rattle.reading.specs.Answer.{limit, layout-of}
+use Rattle.reading.specs.Answer.{layout-of}
+use Rattle.reading.specs.Sizes.{longest-input}
 use Rattle.demands.specs.Stops.{Stops, barred, standing, no-item, not-text, past-item, no-opaque, inside-it, past-it, among, past-all}
 use Rattle.demands.specs.Readings.{Allowed}
 use Rattle.demands.specs.FieldsItemised.{only-values, Fields-reading}
@@ -68,18 +69,18 @@ pub record Own (lo hi n : ℕ) (at : List ℕ) : Type 0 where
 
 -- the items that the answer to s counts, by where they begin: those of the reading, or those before the fault, or none where s is too long
 pub data Counted (s : List ℕ) : List ℕ → Type 0 where
-  too-long : limit < length s → Counted s []
+  too-long : longest-input < length s → Counted s []
   faulty : {c i n : ℕ} (t : Stops datagram 0 s c i n) → Counted s (firsts-before t)
   whole : {f : Found} {bytes items : ℕ} (r : Allowed 0 s f bytes items) → Counted s (firsts-of r)
 
 pub data Run-counted (s : List ℕ) : List ℕ → Type 0 where
-  too-long : limit < length s → Run-counted s []
+  too-long : longest-input < length s → Run-counted s []
   faulty : {c i n : ℕ} (t : Run-stops s 0 c i n) → Run-counted s (run-firsts-before t)
   whole : {g : Forest} {end n : ℕ} (t : Run s 0 g end n) → Run-counted s (run-firsts t)
 
 -- of field reading: those of the layout, or those before the fault, in the range; none where the range is not read
 pub data Fields-counted (ak af : ℕ) (s : List ℕ) (k f start extent : ℕ) : List ℕ → Type 0 where
-  not-read : (length s ≤ limit → start + extent ≤ length s → k ≡ ak → f ≡ af → ⊥) → Fields-counted ak af s k f start extent []
+  not-read : (length s ≤ longest-input → start + extent ≤ length s → k ≡ ak → f ≡ af → ⊥) → Fields-counted ak af s k f start extent []
   faulty : {c i n : ℕ} (t : Stops (alone (layout-of ak af)) start (take extent (drop start s)) c i n) → Fields-counted ak af s k f start extent (firsts-before t)
   whole : {vs : List Value} {bytes items : ℕ} (r : Fields-reading (layout-of ak af) start (take extent (drop start s)) vs bytes items)
       → Fields-counted ak af s k f start extent (firsts (alone (layout-of ak af)) start (r .read) (only-values vs) items (r .is))

@@ -5,7 +5,8 @@ use mathlib.Core.List.{List, _++_}
 use lib.ListN.{length}
 use Rattle.reading.specs.Script.{Found, Script}
 use Rattle.reading.specs.Grammar.{Is}
-use Rattle.reading.specs.Layout.{depth-limit, datagram-to}
+use Rattle.reading.specs.Layout.{datagram-to}
+use Rattle.reading.specs.Sizes.{depth-limit}
 use Rattle.demands.specs.Depths.{Shallow}
 
 -- b, which starts at o, begins with bytes that are the script, and `rest` is left over

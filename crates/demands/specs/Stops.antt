@@ -5,6 +5,7 @@ use mathlib.Core.Path.{_≡_}
 use mathlib.Core.Bool.{Bool, false}
 use mathlib.Core.List.{List, _++_}
 use lib.ListN.{length}
+use Rattle.reading.specs.Sizes.{longest-opaque}
 use Rattle.reading.specs.Bytes.{be4, padded}
 use Rattle.reading.specs.Utf8.{Longest}
 use Rattle.reading.specs.Script.{Width, octet-count, Span, Value, Found, Item, word, tested, long, int, block, opaque, string, Script, refuse, here, item, within, repeat}
@@ -13,8 +14,8 @@ use Rattle.reading.specs.Grammar.{Opaque, Is-item, Many, Is}
 -- b, which is all that is left of what encloses the item, does not begin with an opaque: this is the code
 pub data No-opaque (b : List ℕ) (code : ℕ) : Type 0 where
   no-length : length b < 4 → code ≡ 2 → No-opaque b code
-  too-long : 4 ≤ length b → 104857600 < be4 b 0 → code ≡ 5 → No-opaque b code
-  cut : 4 ≤ length b → be4 b 0 ≤ 104857600 → length b < 4 + padded (be4 b 0) → code ≡ 2 → No-opaque b code
+  too-long : 4 ≤ length b → longest-opaque < be4 b 0 → code ≡ 5 → No-opaque b code
+  cut : 4 ≤ length b → be4 b 0 ≤ longest-opaque → length b < 4 + padded (be4 b 0) → code ≡ 2 → No-opaque b code
 
 -- b begins with an opaque that holds x, and `rest` is left over
 pub record Opens (x b : List ℕ) : Type 0 where

@@ -7,6 +7,7 @@ use borrow.Author.Needs.{needs}
 use borrow.Author.Tests.{le-leb, lt-leb, eq-eqb, ne-eqb}
 use lib.ListN.{length, take}
 use lib.Seq.{length-take-le}
+use Rattle.reading.specs.Sizes.{longest-input}
 use Rattle.reading.specs.Script.{Value}
 use Rattle.reading.specs.Cursor.{stop}
 use Rattle.reading.specs.Values.{valued}
@@ -27,26 +28,26 @@ module _ (k f : ℕ) (s : List ℕ) (d : Descriptor) {r : Asked} where
   refused-so : (code : ℕ) → answered (valued (layout-of k f) (stop code 0 0)) ≡ read-of k f s d → r ≡ not-asked code → Asks k f s d r
   refused-so code e h = rw h (record { inside = omega arith; within = over; is = e })
 
-  pub asks-long : 16777216 < length s → r ≡ not-asked 1 → Asks k f s d r
+  pub asks-long : longest-input < length s → r ≡ not-asked 1 → Asks k f s d r
   unfolding read
-  asks-long h = refused-so 1 (rw (lt-leb (length s) 16777216 h))
+  asks-long h = refused-so 1 (rw (lt-leb (length s) longest-input h))
 
-  module _ (h : length s ≤ 16777216) where
+  module _ (h : length s ≤ longest-input) where
     pub asks-far : length s < d .start + d .length → r ≡ not-asked 10 → Asks k f s d r
     unfolding read
-    asks-far l = refused-so 10 (rw (le-leb (length s) 16777216 h, lt-leb (d .start + d .length) (length s) l))
+    asks-far l = refused-so 10 (rw (le-leb (length s) longest-input h, lt-leb (d .start + d .length) (length s) l))
 
     module _ (l : d .start + d .length ≤ length s) where
       pub asks-kind : (d .kind ≡ k → ⊥) → r ≡ not-asked 11 → Asks k f s d r
       unfolding read
-      asks-kind z = refused-so 11 (rw (le-leb (length s) 16777216 h, le-leb (d .start + d .length) (length s) l, ne-eqb (d .kind) k z))
+      asks-kind z = refused-so 11 (rw (le-leb (length s) longest-input h, le-leb (d .start + d .length) (length s) l, ne-eqb (d .kind) k z))
 
       module _ (e : d .kind ≡ k) where
         pub asks-format : (d .format .0 ≡ f → ⊥) → r ≡ not-asked 11 → Asks k f s d r
         unfolding read
-        asks-format z = refused-so 11 (rw (le-leb (length s) 16777216 h, le-leb (d .start + d .length) (length s) l, eq-eqb (d .kind) k e, ne-eqb (d .format .0) f z))
+        asks-format z = refused-so 11 (rw (le-leb (length s) longest-input h, le-leb (d .start + d .length) (length s) l, eq-eqb (d .kind) k e, ne-eqb (d .format .0) f z))
 
-pub asks-on : (k f : ℕ) (s : List ℕ) (d : Descriptor) → length s ≤ 16777216 → d .start + d .length ≤ length s → d .kind ≡ k → d .format .0 ≡ f
+pub asks-on : (k f : ℕ) (s : List ℕ) (d : Descriptor) → length s ≤ longest-input → d .start + d .length ≤ length s → d .kind ≡ k → d .format .0 ≡ f
     → Asks k f s d (record { passed = passed.Got (record { at = d .start; steps = 0 }); end = d .start + d .length })
 unfolding read
 asks-on k f s d h l e z =
@@ -54,7 +55,7 @@ asks-on k f s d h l e z =
     record {
       inside = l;
       within = inside {c = record { at = d .start; steps = 0 }} (record { inside = omega (arith, n); counted = omega arith });
-      is = rw (le-leb (length s) 16777216 h, le-leb (d .start + d .length) (length s) l, eq-eqb (d .kind) k e, eq-eqb (d .format .0) f z);
+      is = rw (le-leb (length s) longest-input h, le-leb (d .start + d .length) (length s) l, eq-eqb (d .kind) k e, eq-eqb (d .format .0) f z);
     }
 
 module _ {k f : ℕ} {s : List ℕ} {d : Descriptor} {r : Asked} (a : Asks k f s d r) where

@@ -10,6 +10,7 @@ use lib.Dec.{leb}
 use lib.ListN.{length, take, drop}
 use mir.Syntax.{w64}
 use mir.Val.{Fits}
+use Rattle.reading.specs.Sizes.{longest-input}
 use Rattle.reading.specs.Bytes.{be4, padded}
 use Rattle.reading.specs.Script.{Value}
 use Rattle.reading.specs.Cursor.{stop}
@@ -26,22 +27,22 @@ use Rattle.fields.specs.Shown.{unread, Begins}
 -- ---- the payload
 
 module _ (s : List ℕ) (start extent : ℕ) where
-  pub payload-long : 16777216 < length s → no-span ≡ payload-span s start extent
+  pub payload-long : longest-input < length s → no-span ≡ payload-span s start extent
   unfolding payload-span
-  payload-long h = rw (lt-leb (length s) 16777216 h)
+  payload-long h = rw (lt-leb (length s) longest-input h)
 
-  module _ (h : length s ≤ 16777216) where
+  module _ (h : length s ≤ longest-input) where
     pub payload-far : length s < start + extent → no-span ≡ payload-span s start extent
     unfolding payload-span
-    payload-far l = rw (le-leb (length s) 16777216 h, lt-leb (start + extent) (length s) l)
+    payload-far l = rw (le-leb (length s) longest-input h, lt-leb (start + extent) (length s) l)
 
     pub payload-there : start + extent ≤ length s → record { start = start; count = extent } ≡ payload-span s start extent
     unfolding payload-span
-    payload-there l = rw (le-leb (length s) 16777216 h, le-leb (start + extent) (length s) l)
+    payload-there l = rw (le-leb (length s) longest-input h, le-leb (start + extent) (length s) l)
 
   payload-lies : payload-span s start extent .start + payload-span s start extent .count ≤ length s
   unfolding payload-span
-  payload-lies = go (leb (length s) 16777216) (leb (start + extent) (length s)) refl
+  payload-lies = go (leb (length s) longest-input) (leb (start + extent) (length s)) refl
     where
       go : (a b : Bool) → leb (start + extent) (length s) ≡ b → cond a (cond b (record { start = start; count = extent }) no-span) no-span .start + cond a (cond b (record { start = start; count = extent }) no-span) no-span .count ≤ length s
       go true true e = leb-true (start + extent) (length s) e
@@ -64,23 +65,23 @@ module _ (s : List ℕ) (start extent : ℕ) where
 -- ---- all of it
 
 module _ (s : List ℕ) (start extent first : ℕ) where
-  pub whole-long : 16777216 < length s → no-span ≡ whole-span s start extent first
+  pub whole-long : longest-input < length s → no-span ≡ whole-span s start extent first
   unfolding whole-span
-  whole-long h = rw (lt-leb (length s) 16777216 h)
+  whole-long h = rw (lt-leb (length s) longest-input h)
 
-  module _ (h : length s ≤ 16777216) where
+  module _ (h : length s ≤ longest-input) where
     pub whole-behind : start < first → no-span ≡ whole-span s start extent first
     unfolding whole-span
-    whole-behind k = rw (le-leb (length s) 16777216 h, lt-leb first start k)
+    whole-behind k = rw (le-leb (length s) longest-input h, lt-leb first start k)
 
     module _ {p : ℕ} (k : first ≤ start) (e : p ≡ padded extent) where
       pub whole-far : length s < start + p → no-span ≡ whole-span s start extent first
       unfolding whole-span
-      whole-far l = rw (le-leb (length s) 16777216 h, le-leb first start k, lt-leb (start + padded extent) (length s) (rw e at l))
+      whole-far l = rw (le-leb (length s) longest-input h, le-leb first start k, lt-leb (start + padded extent) (length s) (rw e at l))
 
       pub whole-there : start + p ≤ length s → record { start = first; count = start + p - first } ≡ whole-span s start extent first
       unfolding whole-span
-      whole-there l = rw (le-leb (length s) 16777216 h, le-leb first start k, le-leb (start + padded extent) (length s) (rw e at l), e)
+      whole-there l = rw (le-leb (length s) longest-input h, le-leb first start k, le-leb (start + padded extent) (length s) (rw e at l), e)
 
 -- ---- a word of a list
 
@@ -115,19 +116,19 @@ module _ (s : List ℕ) (at : ℕ) {p : Passed} where
   begins-not : (code : ℕ) → answered (valued segment-fields (stop code 0 0)) ≡ segment-at s at → p ≡ unread code → Begins s at p
   begins-not code e h = rw h (record { within = over; is = e })
 
-  pub begins-long : 16777216 < length s → p ≡ unread 1 → Begins s at p
+  pub begins-long : longest-input < length s → p ≡ unread 1 → Begins s at p
   unfolding segment-at
-  begins-long h = begins-not 1 (rw (lt-leb (length s) 16777216 h))
+  begins-long h = begins-not 1 (rw (lt-leb (length s) longest-input h))
 
-  pub begins-far : length s ≤ 16777216 → length s < at → p ≡ unread 10 → Begins s at p
+  pub begins-far : length s ≤ longest-input → length s < at → p ≡ unread 10 → Begins s at p
   unfolding segment-at
-  begins-far h l = begins-not 10 (rw (le-leb (length s) 16777216 h, lt-leb at (length s) l))
+  begins-far h l = begins-not 10 (rw (le-leb (length s) longest-input h, lt-leb at (length s) l))
 
-pub begins-there : (s : List ℕ) (at : ℕ) → length s ≤ 16777216 → at ≤ length s → Begins s at (passed.Got (record { at = at; steps = 0 }))
+pub begins-there : (s : List ℕ) (at : ℕ) → length s ≤ longest-input → at ≤ length s → Begins s at (passed.Got (record { at = at; steps = 0 }))
 unfolding segment-at
 begins-there s at h l = record {
   within = inside {c = record { at = at; steps = 0 }} (record { inside = l; counted = omega arith });
-  is = rw (le-leb (length s) 16777216 h, le-leb at (length s) l);
+  is = rw (le-leb (length s) longest-input h, le-leb at (length s) l);
 }
 
 module _ {s : List ℕ} {at : ℕ} {p : Passed} (b : Begins s at p) where

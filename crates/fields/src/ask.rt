@@ -3,6 +3,7 @@ ghost use mathlib.Core.Path.{_≡_};
 ghost use Rattle.fields.specs.Shown.{Asks, not-asked, unread};
 use store::Descriptor;
 use xdr::Cursor;
+use xdr::MAX_INPUT_SIZE;
 use xdr::Outcome;
 use xdr::Passed;
 
@@ -35,7 +36,7 @@ fn refused(code: u32) -> Asked
 pub fn ask(s: &[u8], d: Descriptor, kind: u32, format: u32) -> Asked
     ensures { λ r. ⌜ Asks kind format (now (s .entry)) d r ⌝ }
 {
-    if 16777216 < s.len() {
+    if MAX_INPUT_SIZE < s.len() {
         return refused(1);
     }
     let start = d.start as usize;

@@ -7,6 +7,7 @@ ghost use Rattle.fields.specs.Shown.{listed, Begins};
 use crate::ask::unread;
 use layout::lists::Segment;
 use xdr::Cursor;
+use xdr::MAX_INPUT_SIZE;
 use xdr::Passed;
 use xdr::Span;
 use xdr::load;
@@ -43,7 +44,7 @@ pub fn list_word(s: &[u8], list: Span, index: usize) -> Listed
 fn segment_start(s: &[u8], at: usize) -> Passed
     ensures { λ r. ⌜ Begins (now (s .entry)) at r ⌝ }
 {
-    if 16777216 < s.len() {
+    if MAX_INPUT_SIZE < s.len() {
         return unread(1);
     }
     if s.len() < at {

@@ -3,6 +3,7 @@ ghost use mathlib.Core.Path.{_≡_};
 ghost use Rattle.reading.specs.Answer.{payload-span, whole-span, payload};
 ghost use Rattle.xdr.specs.Shown.{span};
 use store::Descriptor;
+use xdr::MAX_INPUT_SIZE;
 use xdr::Span;
 use xdr::load;
 
@@ -12,7 +13,7 @@ pub fn payload_span(s: &[u8], d: Descriptor) -> Span
 {
     let start = d.start as usize;
     let count = d.length as usize;
-    if 16777216 < s.len() {
+    if MAX_INPUT_SIZE < s.len() {
         return Span { start: 0, count: 0 };
     }
     if s.len() < start + count {
@@ -31,7 +32,7 @@ pub fn whole_span(s: &[u8], d: Descriptor) -> Span
     let first = d.first as usize;
     let start = d.start as usize;
     let end = start + load::padded(d.length as usize);
-    if 16777216 < s.len() {
+    if MAX_INPUT_SIZE < s.len() {
         return Span { start: 0, count: 0 };
     }
     if start < first {

@@ -10,6 +10,7 @@ use lib.Dec.{leb}
 use lib.ListN.{length, take}
 use mir.Syntax.{w64}
 use mir.Val.{Fits}
+use Rattle.reading.specs.Sizes.{longest-input, depth-limit}
 use Rattle.reading.specs.Bytes.{be4, padded}
 use Rattle.reading.specs.Script.{number, nothing, word, opaque, give}
 use Rattle.reading.specs.Cursor.{Out, got, read-item, times, follow}
@@ -53,7 +54,7 @@ pub passes-none : {s : List ℕ} {c : Cursor} {f : ℕ} {x : Outcome} → Passes
 passes-none = record { flat = λ w. unsure w; is = λ w. unsure w }
 
 -- format 1, by one look at its words
-module _ (s : List ℕ) (c : Cursor) {k n p : ℕ} (v : n ≡ be4 s (c .at + 12)) (z : p ≡ padded n) (u : k ≡ be4 s (c .at)) (g : Inside s c) (h : 16 ≤ length s - c .at) (i : p ≤ length s - c .at - 16) (l : length s ≤ 16777216) where
+module _ (s : List ℕ) (c : Cursor) {k n p : ℕ} (v : n ≡ be4 s (c .at + 12)) (z : p ≡ padded n) (u : k ≡ be4 s (c .at)) (g : Inside s c) (h : 16 ≤ length s - c .at) (i : p ≤ length s - c .at - 16) (l : length s ≤ longest-input) where
   abbrev second : Cursor
   second = record { at = c .at + 4 + 8; steps = c .steps + 1 + 2 }
 
@@ -82,12 +83,12 @@ pub record-none : {s : List ℕ} {c : Cursor} {x : Outcome} → Passes-record s 
 record-none = record { is = λ w. unsure w }
 
 module _ (s : List ℕ) (c : Cursor) {r : Frame} (e : frame-out r ≡ frame-at s (place c)) {f : ℕ} {x : Span} {d : Cursor} (h : r ≡ frame.Got f x d) where
-  pub frame-within : (m : ℕ) → m ≤ length s → x .start + x .count ≤ m → Inside s c → length s ≤ 16777216 → Inside (take m s) (record { at = x .start; steps = d .steps })
+  pub frame-within : (m : ℕ) → m ≤ length s → x .start + x .count ≤ m → Inside s c → length s ≤ longest-input → Inside (take m s) (record { at = x .start; steps = d .steps })
   frame-within m i j g l =
       let k : Scan s c 0 = record { inside = g .inside; counted = g .counted; few = omega arith; short = l } in
       scan-inside (frame-scan s c e h m i 0 j k)
 
-  pub part-short : (m : ℕ) → m ≤ length s → length s ≤ 16777216 → length (take m s) ≤ 16777216
+  pub part-short : (m : ℕ) → m ≤ length s → length s ≤ longest-input → length (take m s) ≤ longest-input
   part-short m i l = let z = frame-part s c e h m i in omega arith
 
   pub record-passed : {q : Passed} {u : Cursor} → Passes (take (x .start + x .count) s) (record { at = x .start; steps = d .steps }) f q → q ≡ passed.Got u
@@ -97,7 +98,7 @@ module _ (s : List ℕ) (c : Cursor) {r : Frame} (e : frame-out r ≡ frame-at s
       same : {v : Cursor} → passed.Got (record { at = d .at; steps = u .steps }) ≡ passed.Got v → record { at = d .at; steps = u .steps } ≡ v
       same y = cc
 
-      read : (k : ℕ) → got (k + 1) (place (record { at = d .at; steps = u .steps })) ≡ counted k (follow (flow 8 8) s (place c))
+      read : (k : ℕ) → got (k + 1) (place (record { at = d .at; steps = u .steps })) ≡ counted k (follow (flow depth-limit depth-limit) s (place c))
       read k =
           record-got 8 s c k e (λ z. absurd (omega arith)) h {m = scanned.Got u (k + 1)}
           (data-got (8 - 1) f (take (x .start + x .count) s) (record { at = x .start; steps = d .steps }) (k + 1) (p .flat w) {r = passed.Got u} (p .is w) refl) refl
@@ -105,12 +106,12 @@ module _ (s : List ℕ) (c : Cursor) {r : Frame} (e : frame-out r ≡ frame-at s
 -- ---- so many in a row
 module _ (s : List ℕ) (c : Cursor) (k : ℕ) {r : Passed} {d : Cursor} (p : Passes-record s c r) (w : r ≡ passed.Got d) where
   pub ahead-scan : Scan s c k → Scan s d (k + 1)
-  ahead-scan g = scan-on (flow 8 8) s c k {m = scanned.Got d (k + 1)} (p .is w k) refl g (flow-thrift 8 8)
+  ahead-scan g = scan-on (flow depth-limit depth-limit) s c k {m = scanned.Got d (k + 1)} (p .is w k) refl g (flow-thrift 8 8)
 
   pub ahead-fits : Scan s c k → length s < 2 ^ 64 → Fits w64 (k + 1)
   ahead-fits g l = let j = ahead-scan g in record { fits = omega (arith, j .few, j .inside) }
 
-  pub ahead-turn : (n : ℕ) {t : Out ℕ} → counted k (times n (follow (flow 8 8)) s (place c)) ≡ t → 0 < n → counted (k + 1) (times (n - 1) (follow (flow 8 8)) s (place d)) ≡ t
-  ahead-turn n h z = scan-turn (flow 8 8) s c k n {m = scanned.Got d (k + 1)} (p .is w k) refl h z
+  pub ahead-turn : (n : ℕ) {t : Out ℕ} → counted k (times n (follow (flow depth-limit depth-limit)) s (place c)) ≡ t → 0 < n → counted (k + 1) (times (n - 1) (follow (flow depth-limit depth-limit)) s (place d)) ≡ t
+  ahead-turn n h z = scan-turn (flow depth-limit depth-limit) s c k n {m = scanned.Got d (k + 1)} (p .is w k) refl h z
 
 pub ruleset passing = (scan-inside, scan-short, part-short, frame-ends, frame-fits, frame-part, frame-within, record-none, record-passed, ahead-scan, ahead-fits, ahead-turn, needs)

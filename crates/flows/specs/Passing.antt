@@ -2,6 +2,7 @@
 use Prim.Native.Nat.{ℕ, _+_, _≤_}
 use mathlib.Core.Path.{_≡_}
 use mathlib.Core.List.{List}
+use Rattle.reading.specs.Sizes.{depth-limit}
 use Rattle.reading.specs.Script.{nothing, give}
 use Rattle.reading.specs.Cursor.{got, times, follow}
 use Rattle.reading.specs.Layout.{opened, flows, flow}
@@ -24,15 +25,15 @@ pub record Passes (s : List ℕ) (c : Cursor) (f : ℕ) (r : Passed) : Type 0 wh
 
 -- where it is passed, a record of a sample is read so, on top of k descriptors
 pub record Passes-record (s : List ℕ) (c : Cursor) (r : Passed) : Type 0 where
-  pub is : {d : Cursor} → r ≡ passed.Got d → (k : ℕ) → got (k + 1) (place d) ≡ counted k (follow (flow 8 8) s (place c))
+  pub is : {d : Cursor} → r ≡ passed.Got d → (k : ℕ) → got (k + 1) (place d) ≡ counted k (follow (flow depth-limit depth-limit) s (place c))
 
 -- to read on from here is to read n records of a sample from c, on top of k descriptors
 pub record Ahead-of (s : List ℕ) (c : Cursor) (n k : ℕ) (r : Ahead) : Type 0 where
   pub scan : Scan s (r .cursor) (r .count)
-  pub same : counted (r .count) (times (r .rest) (follow (flow 8 8)) s (place (r .cursor))) ≡ counted k (times n (follow (flow 8 8)) s (place c))
+  pub same : counted (r .count) (times (r .rest) (follow (flow depth-limit depth-limit)) s (place (r .cursor))) ≡ counted k (times n (follow (flow depth-limit depth-limit)) s (place c))
 
 -- to write on from here, into the store l′, is to write n records at `at` into l
 pub record Flat-of (left : ℕ) (s l : List ℕ) (at n : ℕ) (pen : Pen) (r : Flat) (l′ : List ℕ) : Type 0 where
-  pub ready : Ready s l′ (record { base = pen .base; parent = pen .parent; word = r .word }) (times (r .rest) (follow (flow 8 left)) s (from (r .at)))
-  pub same : placed (record { base = pen .base; parent = pen .parent; word = r .word }) (times (r .rest) (follow (flow 8 left)) s (from (r .at))) l′ ≡ placed pen (times n (follow (flow 8 left)) s (from at)) l
+  pub ready : Ready s l′ (record { base = pen .base; parent = pen .parent; word = r .word }) (times (r .rest) (follow (flow depth-limit left)) s (from (r .at)))
+  pub same : placed (record { base = pen .base; parent = pen .parent; word = r .word }) (times (r .rest) (follow (flow depth-limit left)) s (from (r .at))) l′ ≡ placed pen (times n (follow (flow depth-limit left)) s (from at)) l
   pub few : r .rest ≤ n

@@ -2,12 +2,15 @@
 ghost use mathlib.Core.Path.{_≡_};
 ghost use Prim.Native.Nat.{_-_, _≤_};
 ghost use lib.ListN.{length};
+ghost use Rattle.reading.specs.Sizes.{depth-limit};
 ghost use Rattle.reading.specs.Bytes.{be4};
 ghost use Rattle.reading.specs.Cursor.{times, follow};
 ghost use Rattle.reading.specs.Layout.{opened, flows, flow, pdu};
 ghost use Rattle.reading.specs.Answer.{from};
 ghost use Rattle.store.specs.Written.{Ready, held-by, written, placed, filled, fills};
 ghost use Rattle.flows.specs.Passing.{Flat-of};
+use crate::MAX_DEPTH;
+use crate::TOO_DEEP;
 use numbers::DataFormat;
 use store::DESCRIPTOR_WORDS;
 use store::Descriptor;
@@ -34,14 +37,14 @@ pub fn put_flat_records(
     store: &mut [u32],
     pen: Pen,
 ) -> Flat
-    requires { ⌜ left ≤ 8 ⌝ }
-    requires { ⌜ Ready (now s) (now store) pen (times n (follow (flow 8 left)) (now s) (from at)) ⌝ }
+    requires { ⌜ left ≤ depth-limit ⌝ }
+    requires { ⌜ Ready (now s) (now store) pen (times n (follow (flow depth-limit left)) (now s) (from at)) ⌝ }
     ensures { λ r. ⌜ Flat-of left (now (s .entry)) (now (store .entry)) at n pen r (now (store .exit)) ⌝ }
     ensures { λ r. ⌜ ((r .rest ≡ 0 → ⊥) → be4 (now (s .entry)) (r .at) ≡ 1016) ⌝ }
 {
     let base = pen.base;
     let parent = pen.parent;
-    let depth = (9 - left) as u32;
+    let depth = (TOO_DEEP - left) as u32;
     let mut cur = at;
     let mut word = pen.word;
     let mut rest = n;
@@ -85,9 +88,9 @@ fn put_flow_records(
     store: &mut [u32],
     pen: Pen,
 ) -> Written
-    requires { ⌜ left ≤ 8 ⌝ }
-    requires { ⌜ Ready (now s) (now store) pen (times n (follow (flow 8 left)) (now s) (from at)) ⌝ }
-    ensures { λ r. ⌜ written r (now (store .exit)) ≡ placed pen (times n (follow (flow 8 left)) (now (s .entry)) (from at)) (now (store .entry)) ⌝ }
+    requires { ⌜ left ≤ depth-limit ⌝ }
+    requires { ⌜ Ready (now s) (now store) pen (times n (follow (flow depth-limit left)) (now s) (from at)) ⌝ }
+    ensures { λ r. ⌜ written r (now (store .exit)) ≡ placed pen (times n (follow (flow depth-limit left)) (now (s .entry)) (from at)) (now (store .entry)) ⌝ }
 {
     let base = pen.base;
     let parent = pen.parent;
@@ -118,11 +121,11 @@ fn put_flow_records(
 
 // One flow record: its own descriptor, and, where it is an aggregation, its PDUs behind that.
 fn put_flow_record(s: &[u8], at: usize, left: usize, store: &mut [u32], pen: Pen) -> Written
-    requires { ⌜ left ≤ 8 ⌝ }
-    requires { ⌜ Ready (now s) (now store) pen (follow (flow 8 left) (now s) (from at)) ⌝ }
-    ensures { λ r. ⌜ written r (now (store .exit)) ≡ placed pen (follow (flow 8 left) (now (s .entry)) (from at)) (now (store .entry)) ⌝ }
+    requires { ⌜ left ≤ depth-limit ⌝ }
+    requires { ⌜ Ready (now s) (now store) pen (follow (flow depth-limit left) (now s) (from at)) ⌝ }
+    ensures { λ r. ⌜ written r (now (store .exit)) ≡ placed pen (follow (flow depth-limit left) (now (s .entry)) (from at)) (now (store .entry)) ⌝ }
 {
-    let depth = (9 - left) as u32;
+    let depth = (TOO_DEEP - left) as u32;
     let format = load::be32(s, at);
     let base = pen.base;
     let word = pen.word;
@@ -147,10 +150,10 @@ pub fn put_pdus(
     base: u32,
     word: usize,
 ) -> usize
-    requires { ⌜ left ≤ 8 ⌝ }
+    requires { ⌜ left ≤ depth-limit ⌝ }
     requires { ⌜ at ≤ length (now s) ⌝ }
-    requires { ⌜ Ready (now s) (now store) (held-by base word) (follow (opened (flows (pdu (8 - left) (flow 8 left))) 1016) (now s) (from at)) ⌝ }
-    ensures { λ r. ⌜ filled r (now (store .exit)) ≡ fills (held-by base word) (follow (opened (flows (pdu (8 - left) (flow 8 left))) 1016) (now (s .entry)) (from at)) (now (store .entry)) ⌝ }
+    requires { ⌜ Ready (now s) (now store) (held-by base word) (follow (opened (flows (pdu (depth-limit - left) (flow depth-limit left))) 1016) (now s) (from at)) ⌝ }
+    ensures { λ r. ⌜ filled r (now (store .exit)) ≡ fills (held-by base word) (follow (opened (flows (pdu (depth-limit - left) (flow depth-limit left))) 1016) (now (s .entry)) (from at)) (now (store .entry)) ⌝ }
 {
     let parent = index_at(base, word);
     let mut cur = at + 4;
@@ -181,7 +184,7 @@ pub fn put_pdus(
                 start: start as u32,
                 length: (end - start) as u32,
                 parent: parent,
-                depth: (8 - left) as u32,
+                depth: (MAX_DEPTH - left) as u32,
                 first: cur as u32,
             },
         );

@@ -1,6 +1,7 @@
 // Flow records, aggregations and PDUs, which hold one another: the first pass, which counts descriptors and keeps nothing.
 ghost use mathlib.Core.Path.{_≡_};
 ghost use Prim.Native.Nat.{_-_, _≤_};
+ghost use Rattle.reading.specs.Sizes.{depth-limit};
 ghost use Rattle.reading.specs.Cursor.{times, follow};
 ghost use Rattle.reading.specs.Layout.{opened, flows, flow, pdu};
 ghost use Rattle.reading.proofs.Counts.{counted};
@@ -17,7 +18,7 @@ use xdr::Word;
 // n flow records in a row, with `left` levels left for each.
 pub fn flow_records(s: &[u8], c: Cursor, n: u32, left: usize, count: usize) -> Scanned
     requires { ⌜ Scan (now s) c count ⌝ }
-    ensures { λ r. ⌜ scanned-out r ≡ counted count (times n (follow (flow 8 left)) (now (s .entry)) (place c)) ⌝ }
+    ensures { λ r. ⌜ scanned-out r ≡ counted count (times n (follow (flow depth-limit left)) (now (s .entry)) (place c)) ⌝ }
 {
     let mut cur = c;
     let mut found = count;
@@ -40,7 +41,7 @@ pub fn flow_records(s: &[u8], c: Cursor, n: u32, left: usize, count: usize) -> S
 // One flow record; where no level is left it may not begin.
 fn flow_record(s: &[u8], c: Cursor, left: usize, count: usize) -> Scanned
     requires { ⌜ Scan (now s) c count ⌝ }
-    ensures { λ r. ⌜ scanned-out r ≡ counted count (follow (flow 8 left) (now (s .entry)) (place c)) ⌝ }
+    ensures { λ r. ⌜ scanned-out r ≡ counted count (follow (flow depth-limit left) (now (s .entry)) (place c)) ⌝ }
 {
     if left == 0 {
         return Scanned::Stop(c.refusal(8));
@@ -71,7 +72,7 @@ fn flow_record(s: &[u8], c: Cursor, left: usize, count: usize) -> Scanned
 // What a flow record of this format holds, with `left` levels left below it.
 fn flow_data(s: &[u8], c: Cursor, format: u32, left: usize, count: usize) -> Scanned
     requires { ⌜ Scan (now s) c count ⌝ }
-    ensures { λ r. ⌜ scanned-out r ≡ counted count (follow (opened (flows (pdu (8 - left) (flow 8 left))) format) (now (s .entry)) (place c)) ⌝ }
+    ensures { λ r. ⌜ scanned-out r ≡ counted count (follow (opened (flows (pdu (depth-limit - left) (flow depth-limit left))) format) (now (s .entry)) (place c)) ⌝ }
 {
     if format == 1016 {
         return aggregation(s, c, left, count);
@@ -85,7 +86,7 @@ fn flow_data(s: &[u8], c: Cursor, format: u32, left: usize, count: usize) -> Sca
 // An aggregation: a PDU count and its PDUs.
 fn aggregation(s: &[u8], c: Cursor, left: usize, count: usize) -> Scanned
     requires { ⌜ Scan (now s) c count ⌝ }
-    ensures { λ r. ⌜ scanned-out r ≡ counted count (follow (opened (flows (pdu (8 - left) (flow 8 left))) 1016) (now (s .entry)) (place c)) ⌝ }
+    ensures { λ r. ⌜ scanned-out r ≡ counted count (follow (opened (flows (pdu (depth-limit - left) (flow depth-limit left))) 1016) (now (s .entry)) (place c)) ⌝ }
 {
     let head = Extended80211Aggregation::parse(Passed::Got(c), s);
     let outcome = head.outcome;
@@ -99,7 +100,7 @@ fn aggregation(s: &[u8], c: Cursor, left: usize, count: usize) -> Scanned
 // n PDUs in a row.
 fn pdus(s: &[u8], c: Cursor, n: u32, left: usize, count: usize) -> Scanned
     requires { ⌜ Scan (now s) c count ⌝ }
-    ensures { λ r. ⌜ scanned-out r ≡ counted count (times n (follow (pdu (8 - left) (flow 8 left))) (now (s .entry)) (place c)) ⌝ }
+    ensures { λ r. ⌜ scanned-out r ≡ counted count (times n (follow (pdu (depth-limit - left) (flow depth-limit left))) (now (s .entry)) (place c)) ⌝ }
 {
     let mut cur = c;
     let mut found = count;
@@ -122,7 +123,7 @@ fn pdus(s: &[u8], c: Cursor, n: u32, left: usize, count: usize) -> Scanned
 // One PDU: a record count and its records.
 fn one_pdu(s: &[u8], c: Cursor, left: usize, count: usize) -> Scanned
     requires { ⌜ Scan (now s) c count ⌝ }
-    ensures { λ r. ⌜ scanned-out r ≡ counted count (follow (pdu (8 - left) (flow 8 left)) (now (s .entry)) (place c)) ⌝ }
+    ensures { λ r. ⌜ scanned-out r ≡ counted count (follow (pdu (depth-limit - left) (flow depth-limit left)) (now (s .entry)) (place c)) ⌝ }
 {
     match c.read_u32(s) {
         Word::Stop(r) => Scanned::Stop(r),

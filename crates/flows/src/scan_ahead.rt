@@ -3,6 +3,7 @@
 ghost use mathlib.Core.Path.{_≡_};
 ghost use Prim.Native.Nat.{_≤_};
 ghost use lib.ListN.{length};
+ghost use Rattle.reading.specs.Sizes.{longest-input};
 ghost use Rattle.layout.specs.Scanned.{Scan};
 ghost use Rattle.flows.specs.Passing.{Passes, Passes-record, Ahead-of};
 ghost use Rattle.xdr.specs.Shown.{Inside};
@@ -22,7 +23,7 @@ pub struct Ahead {
 // Format 1, by one look at its words and its end.
 fn sampled_header(c: Cursor, s: &[u8]) -> Passed
     requires { ⌜ Inside (now s) c ⌝ }
-    requires { ⌜ length (now s) ≤ 16777216 ⌝ }
+    requires { ⌜ length (now s) ≤ longest-input ⌝ }
     ensures { λ r. ⌜ Passes (now (s .entry)) c 1 r ⌝ }
 {
     let at = c.at;
@@ -52,7 +53,7 @@ fn sampled_header(c: Cursor, s: &[u8]) -> Passed
 // The payload of a record of this format. A refusal says nothing here.
 fn payload(c: Cursor, s: &[u8], format: u32) -> Passed
     requires { ⌜ Inside (now s) c ⌝ }
-    requires { ⌜ length (now s) ≤ 16777216 ⌝ }
+    requires { ⌜ length (now s) ≤ longest-input ⌝ }
     ensures { λ r. ⌜ Passes (now (s .entry)) c format r ⌝ }
 {
     let row = Row {
@@ -68,7 +69,7 @@ fn payload(c: Cursor, s: &[u8], format: u32) -> Passed
 // One record, likewise.
 fn one_record(s: &[u8], c: Cursor) -> Passed
     requires { ⌜ Inside (now s) c ⌝ }
-    requires { ⌜ length (now s) ≤ 16777216 ⌝ }
+    requires { ⌜ length (now s) ≤ longest-input ⌝ }
     ensures { λ r. ⌜ Passes-record (now (s .entry)) c r ⌝ }
 {
     match Frame::parse(c, s) {

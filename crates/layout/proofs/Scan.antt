@@ -10,7 +10,8 @@ use mir.Syntax.{w64}
 use mir.Val.{Fits}
 use Rattle.reading.specs.Bytes.{be4, padded}
 use Rattle.reading.specs.Script.{number, Found, word, opaque, Script}
-use Rattle.reading.specs.Cursor.{Place, Out, got, stop, max-opaque, read-item, times, follow}
+use Rattle.reading.specs.Cursor.{Place, Out, got, stop, read-item, times, follow}
+use Rattle.reading.specs.Sizes.{longest-opaque, longest-input}
 use Rattle.reading.specs.Answer.{size}
 use Rattle.reading.proofs.Items.{never, word-seen}
 use Rattle.reading.proofs.Counts.{counted, turn-got, turn-stop, turns-done, framing, framing-cut, framing-short, framing-got, frame-at}
@@ -36,7 +37,7 @@ use Rattle.layout.specs.Scanned.{Scan, frame-out, scanned-out}
 pub scan-inside : {s : List ℕ} {c : Cursor} {k : ℕ} → Scan s c k → Inside s c
 scan-inside g = record { inside = g .inside; counted = g .counted }
 
-pub scan-short : {s : List ℕ} {c : Cursor} {k : ℕ} → Scan s c k → length s ≤ 16777216
+pub scan-short : {s : List ℕ} {c : Cursor} {k : ℕ} → Scan s c k → length s ≤ longest-input
 scan-short g = g .short
 
 -- ---- where a script ends that passes four bytes for each descriptor
@@ -111,14 +112,14 @@ module _ (s : List ℕ) (c : Cursor) {n p : ℕ} (v : n ≡ be4 s (c .at + 4)) (
   second-word : got (number n) (place (behind 4 (behind 4 c))) ≡ read-item word s (place (behind 4 c))
   second-word = word-got s (behind 4 c) v refl (record { inside = omega (arith, g .inside); counted = omega (arith, g .counted) }) (omega arith)
 
-  pub frame-long : {d : Cursor} {x : Outcome} → d ≡ behind 4 c → x ≡ refused 5 d → max-opaque < n → refusal x ≡ frame-at s (place c)
+  pub frame-long : {d : Cursor} {x : Outcome} → d ≡ behind 4 c → x ≡ refused 5 d → longest-opaque < n → refusal x ≡ frame-at s (place c)
   frame-long y e l = rw (e, y) (framing-short s (place c) (first-word refl) (opaque-long s (place (behind 4 c)) second-word l))
 
   module _ (k : length s < c .at + 8 + p) where
-    pub frame-over : {d : Cursor} {x : Outcome} → d ≡ behind 4 c → x ≡ refused 2 d → n ≤ max-opaque → refusal x ≡ frame-at s (place c)
+    pub frame-over : {d : Cursor} {x : Outcome} → d ≡ behind 4 c → x ≡ refused 2 d → n ≤ longest-opaque → refusal x ≡ frame-at s (place c)
     frame-over y e l = rw (e, y) (framing-short s (place c) (first-word refl) (opaque-short s (place (behind 4 c)) second-word l (omega arith)))
 
-  pub frame-there : {f : ℕ} → f ≡ be4 s (c .at) → c .at + 8 + p ≤ length s → length s ≤ 16777216
+  pub frame-there : {f : ℕ} → f ≡ be4 s (c .at) → c .at + 8 + p ≤ length s → length s ≤ longest-input
       → got (framing f (record { start = c .at + 8; count = n })) (place (record { at = c .at + 8 + p; steps = c .steps + 2 })) ≡ frame-at s (place c)
   frame-there u k l =
       let i = opaque-got s (place (behind 4 c)) second-word (omega arith) (omega arith) in

@@ -2,6 +2,7 @@
 use Prim.Native.Nat.{ℕ, _≤_}
 use mathlib.Core.List.{List}
 use lib.ListN.{length}
+use Rattle.reading.specs.Sizes.{longest-input}
 use Rattle.reading.specs.Cursor.{Out, got}
 use Rattle.reading.proofs.Counts.{Framing, framing}
 use Rattle.xdr.specs.declared.Cursor.{Cursor}
@@ -16,7 +17,7 @@ pub record Scan (s : List ℕ) (c : Cursor) (k : ℕ) : Type 0 where
   pub inside : c .at ≤ length s
   pub counted : c .steps ≤ c .at
   pub few : k ≤ c .at
-  pub short : length s ≤ 16777216
+  pub short : length s ≤ longest-input
 
 abbrev pub frame-out : Frame → Out Framing
 frame-out (frame.Got f x c) = got (framing f (span x)) (place c)

@@ -2,6 +2,7 @@
 ghost use mathlib.Core.Path.{_≡_};
 ghost use Prim.Native.Nat.{_≤_};
 ghost use lib.ListN.{length};
+ghost use Rattle.reading.specs.Sizes.{longest-input};
 ghost use Rattle.reading.proofs.Counts.{frame-at};
 ghost use Rattle.xdr.specs.Shown.{Inside, place};
 ghost use Rattle.layout.specs.Scanned.{frame-out};
@@ -29,7 +30,7 @@ impl Frame {
     // By one look at its two words and its end: where that is inside, the length is not over the limit, for no input is as long.
     pub fn parse(c: Cursor, s: &[u8]) -> Frame
         requires { ⌜ Inside (now s) c ⌝ }
-        requires { ⌜ length (now s) ≤ 16777216 ⌝ }
+        requires { ⌜ length (now s) ≤ longest-input ⌝ }
         ensures { λ r. ⌜ frame-out r ≡ frame-at (now (s .entry)) (place c) ⌝ }
     {
         let at = c.at;

@@ -2,7 +2,7 @@
 ghost use Prim.Native.Nat.{_+_, _*_, _≤_};
 ghost use mathlib.Core.Path.{_≡_};
 ghost use lib.ListN.{length};
-ghost use Rattle.reading.specs.Answer.{row-words};
+ghost use Rattle.reading.specs.Sizes.{descriptor-words};
 use datagram::decode::Answer;
 use store::DESCRIPTOR_WORDS;
 
@@ -12,7 +12,7 @@ fn word(name: &[u8], w: u32) {
 
 // The descriptor whose first word is at `at`.
 fn descriptor(store: &[u32], at: usize)
-    requires { ⌜ at + row-words ≤ length (now store) ⌝ }
+    requires { ⌜ at + descriptor-words ≤ length (now store) ⌝ }
 {
     word(b"kind=", store[at]);
     word(b" format=", store[at + 1]);
@@ -26,7 +26,7 @@ fn descriptor(store: &[u32], at: usize)
 
 // The first n descriptors.
 fn descriptors(store: &[u32], n: usize)
-    requires { ⌜ row-words * n ≤ length (now store) ⌝ }
+    requires { ⌜ descriptor-words * n ≤ length (now store) ⌝ }
 {
     let mut i = 0;
     while i < n {
@@ -37,7 +37,7 @@ fn descriptors(store: &[u32], n: usize)
 
 // An answer, and the descriptors where there are any.
 pub fn list(a: Answer, store: &[u32])
-    requires { ⌜ (a .code ≡ 0 → row-words * a .needed ≤ length (now store)) ⌝ }
+    requires { ⌜ (a .code ≡ 0 → descriptor-words * a .needed ≤ length (now store)) ⌝ }
 {
     let code = a.code;
     let n = a.needed;

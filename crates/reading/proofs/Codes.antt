@@ -8,7 +8,8 @@ use lib.Dec.{eqb, leb}
 use lib.ListN.{length}
 use Rattle.reading.specs.Script.{Value, Found, Script}
 use Rattle.reading.specs.Cursor.{Place, Out, stop, follow}
-use Rattle.reading.specs.Layout.{num, Field, plain, mac, addr, list, segments, address-of, run-of, field, fields, Row, _⟼_, _⟼_each_, opened, framed, flows, flow, counter, samples, datagram-to, depth-limit, datagram}
+use Rattle.reading.specs.Layout.{num, Field, plain, mac, addr, list, segments, address-of, run-of, field, fields, Row, _⟼_, _⟼_each_, opened, framed, flows, flow, counter, samples, datagram-to, datagram}
+use Rattle.reading.specs.Sizes.{depth-limit}
 use Rattle.reading.specs.Values.{alone}
 use Rattle.reading.specs.Answer.{run-ender, tried, datagrams, layout-at, layout-of}
 use Rattle.reading.proofs.Items.{either}

@@ -12,7 +12,8 @@ use lib.Seq.{getD-append-add}
 use Rattle.reading.specs.Script.{Value, Range, Forest, bare, tree, Found}
 use Rattle.reading.specs.Cursor.{Place, Out, got, stop, follow}
 use Rattle.reading.specs.Layout.{between, datagram}
-use Rattle.reading.specs.Answer.{limit, limited, from, nobody, row-words, size, row-of, rows, room, Header, header-of, no-header, Answer, refused, stored, one, datagrams, run, layout-of, Fields, answered, read}
+use Rattle.reading.specs.Answer.{limited, from, nobody, size, row-of, rows, room, Header, header-of, no-header, Answer, refused, stored, one, datagrams, run, layout-of, Fields, answered, read}
+use Rattle.reading.specs.Sizes.{longest-input, descriptor-words}
 use Rattle.reading.proofs.Fields.{reads-shown}
 use Rattle.reading.proofs.Items.{either}
 use Rattle.reading.proofs.Codes.{datagram-coded, run-coded}
@@ -38,10 +39,10 @@ read-range s r = read (r .kind) (r .format) s (r .kind) (r .format) (r .span .st
 abbrev pub gave : List Value → Place → Fields
 gave vs q = record { code = 0; at = q .at; steps = q .steps; values = vs }
 
-fields-read : (s : List ℕ) (r : Range) {vs : List Value} {q : Place} → length s ≤ limit → Fields-of s r vs q → read-range s r ≡ gave vs q
+fields-read : (s : List ℕ) (r : Range) {vs : List Value} {q : Place} → length s ≤ longest-input → Fields-of s r vs q → read-range s r ≡ gave vs q
 unfolding read answered
 fields-read s r h f =
-    rw (le-leb (length s) limit h, le-leb (r .span .start + r .span .count) (length s) (f .lies), eq-eqb (r .kind) (r .kind) refl, eq-eqb (r .format) (r .format) refl)
+    rw (le-leb (length s) longest-input h, le-leb (r .span .start + r .span .count) (length s) (f .lies), eq-eqb (r .kind) (r .kind) refl, eq-eqb (r .format) (r .format) refl)
     (ap answered (sym (reads-shown (layout-of (r .kind) (r .format)) (take (r .span .start + r .span .count) s) (from (r .span .start)) (f .reads))))
 
 -- what field reading gives of a range: the fields of the reading that has `inner` inside the range
@@ -50,7 +51,7 @@ pub record Read-as (s : List ℕ) (r : Range) (inner : Forest) : Type 0 where
   pub holds : Holds s r values inner
   pub answer : read-range s r ≡ gave values (holds .next)
 
-module _ (s : List ℕ) (short : length s ≤ limit) where
+module _ (s : List ℕ) (short : length s ≤ longest-input) where
   reads-each : {r : Range} {inner f : Forest} → Readable s f → Among r inner f → read-here (r .kind) (r .format) ≡ true → Read-as s r inner
   reads-each {r} h m k = let v = of-each h m k in record { values = v .0; holds = v .1; answer = fields-read s r short (v .1 .fields) }
 
@@ -76,14 +77,14 @@ module _ (s : List ℕ) (short : length s ≤ limit) where
 
 -- a word of the descriptor with this index, and that descriptor, but for its parent
 abbrev pub entry : (store : List ℕ) → (index word : ℕ) → ℕ
-entry w i k = getD w (row-words * i + k) 0
+entry w i k = getD w (descriptor-words * i + k) 0
 
 unfoldable pub descriptor : (store : List ℕ) → (index : ℕ) → Range
 descriptor w i = record { kind = entry w i 0; format = entry w i 1; span = record { start = entry w i 2; count = entry w i 3 }; depth = entry w i 5; first = entry w i 6 }
 
 -- past other descriptors, and past the first
-pub entry-past : (l m : List ℕ) (n i : ℕ) → length l ≡ row-words * n → n ≤ i → (k : ℕ) → entry (l ++ m) i k ≡ entry m (i - n) k
-entry-past l m n i e h k = ap (λ (j : ℕ). getD (l ++ m) j 0) {x = row-words * i + k} {y = length l + (row-words * (i - n) + k)} (omega arith) ∙ getD-append-add l m (row-words * (i - n) + k) 0
+pub entry-past : (l m : List ℕ) (n i : ℕ) → length l ≡ descriptor-words * n → n ≤ i → (k : ℕ) → entry (l ++ m) i k ≡ entry m (i - n) k
+entry-past l m n i e h k = ap (λ (j : ℕ). getD (l ++ m) j 0) {x = descriptor-words * i + k} {y = length l + (descriptor-words * (i - n) + k)} (omega arith) ∙ getD-append-add l m (descriptor-words * (i - n) + k) 0
 
 pub entry-past-one : (p : ℕ) (r : Range) (i : ℕ) (l : List ℕ) (k : ℕ) → entry (row-of p r ++ l) (suc i) k ≡ entry l i k
 entry-past-one p r i l k = entry-past (row-of p r) l 1 (suc i) refl (omega arith) k ∙ ap (λ (j : ℕ). entry l j k) {x = suc i - 1} {y = i} (omega arith)
@@ -118,20 +119,20 @@ Stored-read s a =
     → (inner : Forest) × Read-as s (descriptor (a .store) i) inner
 
 module _ (s w : List ℕ) where
-  stored-reads : (head : List Value → Header) (o : Out Found) → length s ≤ limit → ((c a n : ℕ) → o ≡ stop c a n → c ≡ 0 → ⊥)
+  stored-reads : (head : List Value → Header) (o : Out Found) → length s ≤ longest-input → ((c a n : ℕ) → o ≡ stop c a n → c ≡ 0 → ⊥)
       → ((a : Found) (q : Place) → o ≡ got a q → Readable s (a .ranges)) → Stored-read s (stored head o w)
   unfolding stored
   stored-reads head (got a q) short coded readable =
       either (Stored-read s) (leb (size (a .ranges)) (room w))
-      (λ z i l k. let m = stands-in (a .ranges) 0 nobody i (drop (row-words * size (a .ranges)) w) l in (m .0, reads-each s short (readable a q refl) (m .1) k))
+      (λ z i l k. let m = stands-in (a .ranges) 0 nobody i (drop (descriptor-words * size (a .ranges)) w) l in (m .0, reads-each s short (readable a q refl) (m .1) k))
       (λ z. absurd (omega arith))
   stored-reads head (stop c a n) short coded readable = λ z. absurd (coded c a n refl z)
 
-  within-limit : (x : Answer) → (length s ≤ limit → Stored-read s x) → Stored-read s (limited s x (refused 1 0 0 0 w))
-  within-limit x h = go (leb (length s) limit) refl
+  within-limit : (x : Answer) → (length s ≤ longest-input → Stored-read s x) → Stored-read s (limited s x (refused 1 0 0 0 w))
+  within-limit x h = go (leb (length s) longest-input) refl
     where
-      go : (b : Bool) → leb (length s) limit ≡ b → Stored-read s (cond b x (refused 1 0 0 0 w))
-      go true e = h (leb-true (length s) limit e)
+      go : (b : Bool) → leb (length s) longest-input ≡ b → Stored-read s (cond b x (refused 1 0 0 0 w))
+      go true e = h (leb-true (length s) longest-input e)
       go false e = λ z. absurd (omega arith)
 
   pub stored-reading-accepts : Stored-read s (one s w)

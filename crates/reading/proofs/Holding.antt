@@ -10,7 +10,8 @@ use lib.ListN.{length, take, length-take}
 use lib.Seq.{take-take}
 use Rattle.reading.specs.Script.{Value, Range, Forest, bare, tree, _⊕_, Found, nothing, Script, give, repeat}
 use Rattle.reading.specs.Cursor.{Place, got, times, follow}
-use Rattle.reading.specs.Layout.{fields, Row, last-number, opened, pdu, flows, flow, samples, sample, depth-limit}
+use Rattle.reading.specs.Layout.{fields, Row, last-number, opened, pdu, flows, flow, samples, sample}
+use Rattle.reading.specs.Sizes.{depth-limit}
 use Rattle.reading.specs.Answer.{from, layout-at, layout-of}
 use Rattle.reading.proofs.Fields.{fields-out}
 use Rattle.reading.proofs.Counts.{repeat-is}

@@ -10,7 +10,8 @@ use lib.ListN.{length}
 use lib.Seq.{length-take-le}
 use Rattle.reading.specs.Bytes.{be4, padded}
 use Rattle.reading.specs.Script.{Span, number, word, tested}
-use Rattle.reading.specs.Cursor.{Place, Out, got, stop, then, on, fixed, max-opaque, awaited, read-opaque, read-item, held-to}
+use Rattle.reading.specs.Cursor.{Place, Out, got, stop, then, on, fixed, awaited, read-opaque, read-item, held-to}
+use Rattle.reading.specs.Sizes.{longest-opaque}
 
 -- a refusal is no answer
 pub never : {A B : Type 0} {c a n : ℕ} {x : A} {q : Place} → _≡_ {A = Out A} (stop c a n) (got x q) → B
@@ -104,7 +105,7 @@ module _ (s : List ℕ) (p : Place) (ok : ℕ → Bool) (code : ℕ) where
 
 -- an opaque that was read
 pub record Opaque-read (s : List ℕ) (p : Place) (x : Span) (q : Place) : Type 0 where
-  pub small : x .count ≤ 104857600
+  pub small : x .count ≤ longest-opaque
   pub count : be4 s (p .at) ≡ x .count
   pub fits : p .at + (4 + padded (x .count)) ≤ length s
   pub start : x .start ≡ p .at + 4
@@ -117,13 +118,13 @@ opaque-read s p x q h =
     let w = split (fixed 4 (be4 s (p .at)) s p) _ h in
     let n = w .value in
     let f = fixed-read 4 (be4 s (p .at)) s p (w .first) in
-    let r = passed (leb n max-opaque) _ _ _ _ (w .second) in
+    let r = passed (leb n longest-opaque) _ _ _ _ (w .second) in
     let u = passed (leb (p .at + awaited n) (length s)) _ _ _ _ (r .1) in
     let e : got (record { start = w .place .at; count = n }) (on (4 + padded n) p) ≡ got x q = u .1 in
     let v : x ≡ record { start = w .place .at; count = n } = cc in
     let z : q ≡ on (4 + padded n) p = cc in
     let c : x .count ≡ n = ap (λ (y : Span). y .count) v in
-    let l : n ≤ max-opaque = leb-true _ _ (r .0) in
+    let l : n ≤ longest-opaque = leb-true _ _ (r .0) in
     let m : p .at + awaited n ≤ length s = leb-true _ _ (u .0) in
     record {
       small = rw c (omega arith);
@@ -157,4 +158,4 @@ module _ (s : List ℕ) (p : Place) where
   pub opaque-here : Or-here p (read-opaque s p)
   unfolding read-opaque
   opaque-here = here-then (fixed-here 4 _) (λ n q.
-      either (Or-here p) (leb n max-opaque) (either (Or-here p) (leb (p .at + awaited n) (length s)) given (refused (omega arith, omega arith))) (refused (omega arith, omega arith)))
+      either (Or-here p) (leb n longest-opaque) (either (Or-here p) (leb (p .at + awaited n) (length s)) given (refused (omega arith, omega arith))) (refused (omega arith, omega arith)))

@@ -9,7 +9,8 @@ use lib.ListN.{length}
 use Rattle.reading.specs.Bytes.{be4, padded}
 use Rattle.reading.specs.Utf8.{utf8}
 use Rattle.reading.specs.Script.{Span, number, part, Found, word, opaque, string, Script, within}
-use Rattle.reading.specs.Cursor.{Place, Out, got, stop, then, fixed, max-opaque, awaited, bytes, ill-at, read-opaque, read-item, follow}
+use Rattle.reading.specs.Cursor.{Place, Out, got, stop, then, fixed, awaited, bytes, ill-at, read-opaque, read-item, follow}
+use Rattle.reading.specs.Sizes.{longest-opaque}
 use Rattle.reading.proofs.Items.{never, split, fixed-stops, word-seen, opaque-read}
 
 module _ (s : List ℕ) (p : Place) where
@@ -18,18 +19,18 @@ module _ (s : List ℕ) (p : Place) where
   opaque-cut e = rw (← fixed-stops s p 4 (number (be4 s (p .at))) (be4 s (p .at)) e)
 
   module _ {n : ℕ} {q : Place} (e : got (number n) q ≡ read-item word s p) where
-    pub opaque-long : max-opaque < n → stop 5 (p .at) (p .steps) ≡ read-item opaque s p
+    pub opaque-long : longest-opaque < n → stop 5 (p .at) (p .steps) ≡ read-item opaque s p
     unfolding read-item
     opaque-long l = let w = word-seen s p e in simp (le-leb _ _ (w .0), ← w .1, lt-leb _ _ l)
 
-    pub opaque-short : n ≤ max-opaque → length s - q .at < padded n → stop 2 (p .at) (p .steps) ≡ read-item opaque s p
+    pub opaque-short : n ≤ longest-opaque → length s - q .at < padded n → stop 2 (p .at) (p .steps) ≡ read-item opaque s p
     unfolding read-item
     opaque-short l r =
         let w = word-seen s p e in
         let a : q .at ≡ p .at + 4 = ap (λ (t : Place). t .at) (w .2) in
         simp (le-leb _ _ (w .0), ← w .1, le-leb _ _ l, lt-leb (p .at + awaited n) (length s) (omega arith))
 
-    pub opaque-got : n ≤ max-opaque → padded n ≤ length s - q .at → got (part (record { start = q .at; count = n })) (record { at = q .at + padded n; steps = q .steps }) ≡ read-item opaque s p
+    pub opaque-got : n ≤ longest-opaque → padded n ≤ length s - q .at → got (part (record { start = q .at; count = n })) (record { at = q .at + padded n; steps = q .steps }) ≡ read-item opaque s p
     unfolding read-item
     opaque-got l r =
         let w = word-seen s p e in
@@ -49,7 +50,7 @@ module _ (s : List ℕ) (p : Place) where
       rw (← i) (rw (r .start) (omega (arith, r .fits)))
 
   -- it is read whole before anything in it: where its payload or its pad is not there it is refused at its length word, whatever it holds
-  pub whole-first : (body : Script) (k : Span → Found → Script) → p .at + 4 ≤ length s → be4 s (p .at) ≤ max-opaque → length s < p .at + (4 + padded (be4 s (p .at)))
+  pub whole-first : (body : Script) (k : Span → Found → Script) → p .at + 4 ≤ length s → be4 s (p .at) ≤ longest-opaque → length s < p .at + (4 + padded (be4 s (p .at)))
       → follow (within body k) s p ≡ stop 2 (p .at) (p .steps)
   unfolding follow fixed
   whole-first body k a b c = rw (le-leb _ _ a, le-leb _ _ b, lt-leb _ _ c)

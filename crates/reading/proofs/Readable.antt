@@ -8,7 +8,8 @@ use lib.Dec.{eqb, leb}
 use lib.ListN.{length, take}
 use Rattle.reading.specs.Script.{Value, Range, Forest, Found, nothing, Script, give}
 use Rattle.reading.specs.Cursor.{Place, Out, got, stop, Reader, times, follow}
-use Rattle.reading.specs.Layout.{Field, fields, Row, _⟼_, _⟼_each_, last-number, opened, ranged, between, framed, pdu, flows, flow, counter, samples, sample, header, depth-limit, datagram}
+use Rattle.reading.specs.Layout.{Field, fields, Row, _⟼_, _⟼_each_, last-number, opened, ranged, between, framed, pdu, flows, flow, counter, samples, sample, header, datagram}
+use Rattle.reading.specs.Sizes.{depth-limit}
 use Rattle.reading.specs.Answer.{from, run-ender, tried, datagrams, layout-of}
 use Rattle.reading.proofs.Items.{never, split, either}
 use Rattle.reading.proofs.Stands.{place}

@@ -9,7 +9,8 @@ use lib.Dec.{eqb, leb}
 use lib.ListN.{length}
 use Rattle.reading.specs.Script.{Forest, bare, _⊕_, Found, nothing}
 use Rattle.reading.specs.Cursor.{Place, Out, got, stop, then, follow}
-use Rattle.reading.specs.Layout.{only, depth-limit, datagram}
+use Rattle.reading.specs.Layout.{only, datagram}
+use Rattle.reading.specs.Sizes.{depth-limit}
 use Rattle.reading.specs.Answer.{from, run-ender, tried}
 use Rattle.reading.proofs.Items.{split}
 use Rattle.reading.proofs.Room.{last-place, datagram-on}

@@ -9,7 +9,8 @@ use lib.Dec.{eqb, leb}
 use lib.ListN.{length}
 use Rattle.reading.specs.Script.{_⊕_, Found, nothing}
 use Rattle.reading.specs.Cursor.{Place, Out, got, stop, then, follow}
-use Rattle.reading.specs.Layout.{only, depth-limit, datagram}
+use Rattle.reading.specs.Layout.{only, datagram}
+use Rattle.reading.specs.Sizes.{depth-limit}
 use Rattle.reading.specs.Answer.{size, from, run-ender, tried, datagrams}
 use Rattle.reading.proofs.Items.{never, split}
 use Rattle.reading.proofs.Steps.{Alike, both-got, both-stop, Steady, alike-then, alike-cond, steady}

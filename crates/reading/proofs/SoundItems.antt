@@ -8,6 +8,7 @@ use borrow.Author.Tests.{leb-true}
 use lib.Dec.{leb}
 use lib.ListN.{length, take, drop, take-append-drop, length-drop}
 use lib.Seq.{length-take-le, drop-drop, take-add}
+use Rattle.reading.specs.Sizes.{longest-opaque}
 use Rattle.reading.specs.Bytes.{signed, be4, be8, pads, padded}
 use Rattle.reading.specs.Utf8.{utf8}
 use Rattle.reading.specs.Script.{octet-count, Span, Value, number, integer, octets, part, Item, word, tested, long, int, block, opaque, string}
@@ -33,7 +34,7 @@ pub record Item-read (i : Item) (s : List ℕ) (p : Place) (v : Value) (q : Plac
   pub is : Is-item i (p .at) (take size (drop (p .at) s)) v
 
 -- its bytes are an opaque that holds the span's bytes
-module _ (s : List ℕ) (o n : ℕ) (fits : o + (4 + padded n) ≤ length s) (count : be4 s o ≡ n) (small : n ≤ 104857600) where
+module _ (s : List ℕ) (o n : ℕ) (fits : o + (4 + padded n) ≤ length s) (count : be4 s o ≡ n) (small : n ≤ longest-opaque) where
   pub held-length : length (take n (drop (o + 4) s)) ≡ n
   held-length = cut-length s (o + 4) n (omega arith)
 

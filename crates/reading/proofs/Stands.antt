@@ -8,7 +8,8 @@ use borrow.Author.Tests.{le-leb}
 use lib.ListN.{length, take, drop, getD, length-append, List·getD-append, take-append-drop}
 use lib.Seq.{getD-drop, drop-drop, drop-append-le, drop-at, take-at, length-take-le, take-nil, drop-nil}
 use Rattle.reading.specs.Bytes.{be4, padded}
-use Rattle.reading.specs.Cursor.{Place, got, fixed, max-opaque, awaited, read-opaque}
+use Rattle.reading.specs.Cursor.{Place, got, fixed, awaited, read-opaque}
+use Rattle.reading.specs.Sizes.{longest-opaque}
 use Rattle.reading.specs.Grammar.{Opaque}
 
 abbrev pub place : ℕ → ℕ → Place
@@ -62,7 +63,7 @@ unfolding read-opaque
 opaque-there {s} {u} {rest} {x} o k q h =
     let len : length u ≡ 4 + padded (length x) = ap length (q .joined) ∙ simp (length-append, q .four, q .filled) (omega arith) in
     let n : be4 s o ≡ length x = be4-here o (front (q .size) (x ++ q .pad) (q .joined) h) (omega (arith, q .four)) ∙ q .counts in
-    rw (le-leb (o + 4) (length s) (omega (arith, h .fits)), n, le-leb (length x) max-opaque (omega (arith, q .small)), le-leb (o + awaited (length x)) (length s) (omega (arith, len, h .fits)))
+    rw (le-leb (o + 4) (length s) (omega (arith, h .fits)), n, le-leb (length x) longest-opaque (omega (arith, q .small)), le-leb (o + awaited (length x)) (length s) (omega (arith, len, h .fits)))
     (ap (λ (j : ℕ). got (record { start = o + 4; count = length x }) (place (o + j) (k + 1))) (sym len))
 
 pub payload-there : {s u rest x : List ℕ} (o : ℕ) → Opaque x u → Stands s o u rest → (e : List ℕ) × Stands s (o + 4) x e

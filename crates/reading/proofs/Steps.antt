@@ -8,7 +8,8 @@ use lib.ListN.{length}
 use Rattle.reading.specs.Bytes.{be4}
 use Rattle.reading.specs.Utf8.{utf8}
 use Rattle.reading.specs.Script.{octet-count, Span, Found, Item, word, tested, long, int, block, opaque, string, Script, give, refuse, here, item, within, repeat}
-use Rattle.reading.specs.Cursor.{Place, Out, got, stop, Reader, then, on, fixed, max-opaque, awaited, bytes, read-opaque, read-item, times, held-to, inside, follow}
+use Rattle.reading.specs.Cursor.{Place, Out, got, stop, Reader, then, on, fixed, awaited, bytes, read-opaque, read-item, times, held-to, inside, follow}
+use Rattle.reading.specs.Sizes.{longest-opaque}
 use Rattle.reading.proofs.Items.{never}
 use Rattle.reading.proofs.Stands.{place}
 
@@ -40,7 +41,7 @@ module _ (s : List ℕ) (p q : Place) (e : p .at ≡ q .at) where
   alike-opaque : Alike (read-opaque s p) (read-opaque s q)
   unfolding read-opaque
   alike-opaque =
-      rw e (alike-then _ _ first (λ n i j h. rw h (alike-cond (leb n max-opaque) (alike-cond (leb (q .at + awaited n) (length s)) (both-got refl) both-stop) both-stop)))
+      rw e (alike-then _ _ first (λ n i j h. rw h (alike-cond (leb n longest-opaque) (alike-cond (leb (q .at + awaited n) (length s)) (both-got refl) both-stop) both-stop)))
     where
       first : Alike (cond (leb (q .at + 4) (length s)) (got (be4 s (q .at)) (record { at = q .at + 4; steps = on 4 p .steps })) (stop 2 (q .at) (p .steps))) (fixed 4 (be4 s (q .at)) s q)
       first = alike-cond (leb (q .at + 4) (length s)) (both-got refl) both-stop

@@ -9,7 +9,8 @@ use native.Mathlib.Numerals.{towards-suc}
 use lib.ListN.{length, set, take, drop, length-append, length-drop, take-append-drop, drop-of-length-le}
 use lib.Seq.{sets, length-sets, sets-eq, set-comm, take-all, length-take-le}
 use Rattle.reading.specs.Script.{Range, Forest, bare, tree, _⊕_}
-use Rattle.reading.specs.Answer.{row-words, size, row-of, rows}
+use Rattle.reading.specs.Answer.{size, row-of, rows}
+use Rattle.reading.specs.Sizes.{descriptor-words}
 
 -- the list l with ws stored from place i on
 unfoldable pub write : List ℕ → ℕ → List ℕ → List ℕ
@@ -84,11 +85,11 @@ write-rest l m ws h =
     rw (n, append-nil, rest-is) (sym (sets-right (take m l) (drop m l) 0 ws) ∙ ap (λ (j : ℕ). sets (take m l ++ drop m l) j ws) k ∙ ap (λ (x : List ℕ). sets x m ws) (take-append-drop m l))
 
 -- ---- rows of descriptors
-pub rows-length : (i p : ℕ) (f : Forest) → length (rows i p f) ≡ row-words * size f
+pub rows-length : (i p : ℕ) (f : Forest) → length (rows i p f) ≡ descriptor-words * size f
 unfolding rows size
 rows-length i p bare = refl
 rows-length i p (tree r inner after) =
-    let a : (q : ℕ) → length (rows (i + 1) q inner) ≡ row-words * size inner = λ q. rows-length (i + 1) q inner in
+    let a : (q : ℕ) → length (rows (i + 1) q inner) ≡ descriptor-words * size inner = λ q. rows-length (i + 1) q inner in
     let b = rows-length (i + 1 + size inner) p after in
     simp (length-append, a, b) (omega arith)
 

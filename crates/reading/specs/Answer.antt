@@ -8,15 +8,13 @@ use Rattle.reading.specs.Bytes.{be4, padded}
 use Rattle.reading.specs.Utf8.{_&_}
 use Rattle.reading.specs.Script.{Span, Value, number, integer, octets, address, part, Range, Forest, bare, tree, _⊕_, Found, nothing, give}
 use Rattle.reading.specs.Cursor.{Place, Out, got, stop, Reader, then, follow}
-use Rattle.reading.specs.Layout.{num, oct, Field, list, Row, words, only, flows, samples, header, depth-limit, datagram}
+use Rattle.reading.specs.Layout.{num, oct, Field, list, Row, words, only, flows, samples, header, datagram}
+use Rattle.reading.specs.Sizes.{longest-input, depth-limit, descriptor-words}
 use Rattle.reading.specs.Values.{zeros, Reading, valued, reading}
-
-abbrev pub limit : ℕ
-limit = 16777216
 
 -- the one or the other, as the input is within the limit or beyond it
 abbrev pub limited : {A : Type 0} → List ℕ → A → A → A
-limited s within beyond = cond (leb (length s) limit) within beyond
+limited s within beyond = cond (leb (length s) longest-input) within beyond
 
 abbrev pub from : ℕ → Place
 from at = record { at = at; steps = 0 }
@@ -26,10 +24,6 @@ from at = record { at = at; steps = 0 }
 -- the parent of a datagram
 abbrev pub nobody : ℕ
 nobody = 4294967295
-
--- the words of a descriptor
-abbrev pub row-words : ℕ
-row-words = 7
 
 -- how many descriptors
 unfoldable pub size : Forest → ℕ
@@ -47,7 +41,7 @@ rows i p (tree r inner after) = row-of p r ++ (rows (i + 1) i inner ++ rows (i +
 
 -- how many descriptors a store holds
 abbrev pub room : List ℕ → ℕ
-room w = length w / row-words
+room w = length w / descriptor-words
 
 -- ---- one datagram
 
@@ -104,7 +98,7 @@ stored head (got a p) w =
       steps = p .steps;
       needed = size (a .ranges);
       head = head (a .values);
-      store = rows 0 nobody (a .ranges) ++ drop (row-words * size (a .ranges)) w;
+      store = rows 0 nobody (a .ranges) ++ drop (descriptor-words * size (a .ranges)) w;
     })
     (refused 9 0 (p .steps) (size (a .ranges)) w)
 stored head (stop c a n) w = refused c a n 0 w

@@ -4,6 +4,7 @@ use mathlib.Core.Bool.{cond}
 use mathlib.Core.List.{List}
 use lib.ListN.{length, take, drop}
 use lib.Dec.{leb}
+use Rattle.reading.specs.Sizes.{longest-opaque}
 use Rattle.reading.specs.Bytes.{be4, be8, signed, padded}
 use Rattle.reading.specs.Utf8.{utf8, well-formed}
 use Rattle.reading.specs.Script.{octet-count, Span, Value, number, integer, octets, part, Found, nothing, _&&_, Item, word, tested, long, int, block, opaque, string, Script, give, refuse, here, item, within, repeat}
@@ -34,9 +35,6 @@ on n p = record { at = p .at + n; steps = p .steps + 1 }
 unfoldable pub fixed : {A : Type 0} → ℕ → A → Reader A
 fixed n a s p = cond (leb (p .at + n) (length s)) (got a (on n p)) (stop 2 (p .at) (p .steps))
 
-abbrev pub max-opaque : ℕ
-max-opaque = 104857600
-
 -- how many bytes of an opaque of n have to be there before anything in it is looked at: its length word, its payload and its pad
 abbrev pub awaited : ℕ → ℕ
 awaited n = 4 + padded n
@@ -45,7 +43,7 @@ awaited n = 4 + padded n
 unfoldable pub read-opaque : Reader Span
 unfolding fixed
 read-opaque s p = then (fixed 4 (be4 s (p .at)) s p) (λ n q.
-    cond (leb n max-opaque)
+    cond (leb n longest-opaque)
     (cond (leb (p .at + awaited n) (length s)) (got (record { start = q .at; count = n }) (on (4 + padded n) p)) (stop 2 (p .at) (p .steps)))
     (stop 5 (p .at) (p .steps)))
 

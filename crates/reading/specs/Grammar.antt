@@ -5,6 +5,7 @@ use mathlib.Core.Bool.{true}
 use mathlib.Core.List.{List, [], _++_}
 use lib.ListN.{length}
 use Rattle.reading.specs.Utf8.{utf8}
+use Rattle.reading.specs.Sizes.{longest-opaque}
 use Rattle.reading.specs.Bytes.{be4, be8, signed, pads}
 use Rattle.reading.specs.Script.{octet-count, Value, number, integer, octets, part, Found, nothing, _&&_, Item, word, tested, long, int, block, opaque, string, Script, give, refuse, here, item, within, repeat}
 
@@ -15,7 +16,7 @@ pub record Opaque (x u : List ℕ) : Type 0 where
   pub joined : u ≡ size ++ (x ++ pad)
   pub four : length size ≡ 4
   pub counts : be4 size 0 ≡ length x
-  pub small : length x ≤ 104857600
+  pub small : length x ≤ longest-opaque
   pub filled : length pad ≡ pads (length x)
 
 -- b, which starts at o, is the item, and gives v

@@ -5,6 +5,7 @@ use mathlib.Core.List.{List, [], _∷_, _++_}
 use lib.ListN.{replicate, take}
 use lib.Dec.{eqb, leb}
 use Rattle.reading.specs.Numbers.{known, header-protocols}
+use Rattle.reading.specs.Sizes.{depth-limit}
 use Rattle.reading.specs.Script.{Width, four, six, eight, sixteen, Span, Value, number, integer, octets, address, part, Forest, bare, tree, Found, nothing, Item, word, tested, long, block, opaque, string, Script, give, refuse, here, item, within, repeat}
 
 -- ---- fields
@@ -187,9 +188,6 @@ unfoldable pub datagram-to : (limit : ℕ) → Script
 datagram-to limit =
     here (λ a. fields header (λ vs. repeat (last-number vs) (sample limit) (λ r. here (λ e.
     give (record { values = vs; ranges = ranged 0 0 0 a (between a e) (r .ranges) })))))
-
-abbrev pub depth-limit : ℕ
-depth-limit = 8
 
 abbrev pub datagram : Script
 datagram = datagram-to depth-limit

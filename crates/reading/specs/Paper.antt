@@ -7,7 +7,8 @@ use Rattle.reading.specs.Bytes.{be4}
 use Rattle.reading.specs.Numbers.{known, header-protocols}
 use Rattle.reading.specs.Cursor.{read-item, follow}
 use Rattle.reading.specs.Layout.{address-of, run-of, field, fields, last-number, opened, flows, flow, samples, datagram-to}
-use Rattle.reading.specs.Answer.{row-words, size, rows, Header, header-of, no-header, Answer, refused, stored, one, tried, datagrams, run}
+use Rattle.reading.specs.Answer.{size, rows, Header, header-of, no-header, Answer, refused, stored, one, tried, datagrams, run}
+use Rattle.reading.specs.Sizes.{descriptor-words}
 
 -- ---- inputs
 
@@ -47,7 +48,7 @@ lent n = replicate n unwritten
 
 -- the words of a store for so many descriptors
 abbrev holding : ℕ → ℕ
-holding n = row-words * n
+holding n = descriptor-words * n
 
 desc : (kind format start extent parent depth first : ℕ) → List ℕ
 desc k f s l p e o = k ∷ f ∷ s ∷ l ∷ p ∷ e ∷ o ∷ []

@@ -2,7 +2,7 @@
 ghost use Prim.Native.Nat.{_+_, _*_, _≤_};
 ghost use mathlib.Core.Path.{_≡_};
 ghost use lib.ListN.{length};
-ghost use Rattle.reading.specs.Answer.{row-words};
+ghost use Rattle.reading.specs.Sizes.{descriptor-words};
 use crate::heads;
 use crate::records;
 use datagram::decode::Answer;
@@ -72,7 +72,7 @@ fn descriptor(s: &[u8], d: Descriptor) {
 
 // The descriptor whose first word is at `at`.
 fn descriptor_at(store: &[u32], at: usize) -> Descriptor
-    requires { ⌜ at + row-words ≤ length (now store) ⌝ }
+    requires { ⌜ at + descriptor-words ≤ length (now store) ⌝ }
 {
     Descriptor {
         kind: store[at],
@@ -87,7 +87,7 @@ fn descriptor_at(store: &[u32], at: usize) -> Descriptor
 
 // The first n descriptors.
 fn descriptors(s: &[u8], store: &[u32], n: usize)
-    requires { ⌜ row-words * n ≤ length (now store) ⌝ }
+    requires { ⌜ descriptor-words * n ≤ length (now store) ⌝ }
 {
     let mut i = 0;
     while i < n {
@@ -99,7 +99,7 @@ fn descriptors(s: &[u8], store: &[u32], n: usize)
 
 // The end of a line: the fields of the first n descriptors.
 fn line(s: &[u8], store: &[u32], n: usize)
-    requires { ⌜ row-words * n ≤ length (now store) ⌝ }
+    requires { ⌜ descriptor-words * n ≤ length (now store) ⌝ }
 {
     descriptors(s, store, n);
     printing::text(b"\n");
@@ -107,7 +107,7 @@ fn line(s: &[u8], store: &[u32], n: usize)
 
 // The descriptors that a call leaves: there are some where the code is 0.
 pub fn left(s: &[u8], a: Answer, store: &[u32])
-    requires { ⌜ (a .code ≡ 0 → row-words * a .needed ≤ length (now store)) ⌝ }
+    requires { ⌜ (a .code ≡ 0 → descriptor-words * a .needed ≤ length (now store)) ⌝ }
 {
     let code = a.code;
     let n = a.needed;

@@ -2,7 +2,7 @@
 ghost use Prim.Native.Nat.{_+_, _*_, _≤_, _<_};
 ghost use mathlib.Core.Path.{_≡_};
 ghost use lib.ListN.{length};
-ghost use Rattle.reading.specs.Answer.{row-words};
+ghost use Rattle.reading.specs.Sizes.{descriptor-words};
 use datagram::decode::Answer;
 use libc::STDOUT_FILENO;
 use store::DESCRIPTOR_WORDS;
@@ -57,7 +57,7 @@ pub fn word(name: &[u8], w: u32) {
 
 // The descriptor whose first word is at `at`.
 fn descriptor(store: &[u32], at: usize)
-    requires { ⌜ at + row-words ≤ length (now store) ⌝ }
+    requires { ⌜ at + descriptor-words ≤ length (now store) ⌝ }
 {
     word(b"; ", store[at]);
     word(b",", store[at + 1]);
@@ -70,7 +70,7 @@ fn descriptor(store: &[u32], at: usize)
 
 // The first n descriptors.
 fn descriptors(store: &[u32], n: usize)
-    requires { ⌜ row-words * n ≤ length (now store) ⌝ }
+    requires { ⌜ descriptor-words * n ≤ length (now store) ⌝ }
 {
     let mut i = 0;
     while i < n {
@@ -81,7 +81,7 @@ fn descriptors(store: &[u32], n: usize)
 
 // The end of a line: how many of the store's words are as they were behind the first n descriptors, and those.
 fn behind(store: &[u32], n: usize)
-    requires { ⌜ row-words * n ≤ length (now store) ⌝ }
+    requires { ⌜ descriptor-words * n ≤ length (now store) ⌝ }
 {
     printing::number(b" kept=", kept(store, DESCRIPTOR_WORDS * n) as u64);
     descriptors(store, n);
@@ -90,7 +90,7 @@ fn behind(store: &[u32], n: usize)
 
 // The store that a call leaves: it has descriptors where the code is 0.
 pub fn left(a: Answer, store: &[u32])
-    requires { ⌜ (a .code ≡ 0 → row-words * a .needed ≤ length (now store)) ⌝ }
+    requires { ⌜ (a .code ≡ 0 → descriptor-words * a .needed ≤ length (now store)) ⌝ }
 {
     let code = a.code;
     let n = a.needed;

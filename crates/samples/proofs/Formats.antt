@@ -5,13 +5,14 @@ use mathlib.Core.Bool.{true}
 use borrow.Author.Tests.{leb-true, ne-eqb}
 use native.Mathlib.Omega.{arith}
 use lib.Dec.{leb}
+use Rattle.reading.specs.Sizes.{depth-limit}
 use Rattle.reading.specs.Layout.{opened, samples}
 use Rattle.samples.specs.declared.heads.SampleKind.{SampleKind}
 use Rattle.samples.specs.declared.heads.SampleKind.the-variants as kind
 use Rattle.samples.specs.Held.{held, words-of, eight-of, Is-kind}
 
-pub is-kind : (k : ℕ) {f : ℕ} {r : SampleKind} → f ≡ k → opened (samples 8) k ≡ held r → leb 1 (words-of r) ≡ true → leb (words-of r) 11 ≡ true → leb (eight-of r) (words-of r) ≡ true → Is-kind r f
-is-kind k {f} {r} e q a b d = record { is = ap (opened (samples 8)) e ∙ q; some = leb-true 1 (words-of r) a; few = leb-true (words-of r) 11 b; eight = leb-true (eight-of r) (words-of r) d }
+pub is-kind : (k : ℕ) {f : ℕ} {r : SampleKind} → f ≡ k → opened (samples depth-limit) k ≡ held r → leb 1 (words-of r) ≡ true → leb (words-of r) 11 ≡ true → leb (eight-of r) (words-of r) ≡ true → Is-kind r f
+is-kind k {f} {r} e q a b d = record { is = ap (opened (samples depth-limit)) e ∙ q; some = leb-true 1 (words-of r) a; few = leb-true (words-of r) 11 b; eight = leb-true (eight-of r) (words-of r) d }
 
 pub raw-kind : {f : ℕ} → (f ≡ 1 → ⊥) → (f ≡ 2 → ⊥) → (f ≡ 3 → ⊥) → (f ≡ 4 → ⊥) → (f ≡ 5 → ⊥) → Is-kind kind.Raw f
 unfolding opened samples

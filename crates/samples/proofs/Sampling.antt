@@ -8,6 +8,7 @@ use borrow.Author.Needs.{needs}
 use lib.ListN.{length, take}
 use mir.Syntax.{w64}
 use mir.Val.{Fits}
+use Rattle.reading.specs.Sizes.{depth-limit}
 use Rattle.reading.specs.Script.{Value, word, Script, give, repeat}
 use Rattle.reading.specs.Cursor.{Out, got, times, follow}
 use Rattle.reading.specs.Bytes.{be4}
@@ -155,36 +156,36 @@ module _ (f : ℕ) (s : List ℕ) (c : Cursor) (k : ℕ) where
   each body l (goes e i) = sym (each-held l s (place c) k body e)
   each body l (halts e) = fields-stop l s (place c) k _ e
 
-  by-last : (n : ℕ) (body : Script) (at : ℕ) {p : Passed} {o : Out ℕ} → opened (samples 8) f ≡ counted-by-last n body → 1 ≤ n → Then (words n) s (passed.Got c) p (numbers n s at) → o ≡ rest-of body s p (be4 s (at + (4 * n - 4))) k
-      → o ≡ counted k (follow (opened (samples 8) f) s (place c))
+  by-last : (n : ℕ) (body : Script) (at : ℕ) {p : Passed} {o : Out ℕ} → opened (samples depth-limit) f ≡ counted-by-last n body → 1 ≤ n → Then (words n) s (passed.Got c) p (numbers n s at) → o ≡ rest-of body s p (be4 s (at + (4 * n - 4))) k
+      → o ≡ counted k (follow (opened (samples depth-limit) f) s (place c))
   by-last n body at {p} r h t q =
       q ∙ ap (λ (m : ℕ). rest-of body s p m k) (sym (last-of n s at h)) ∙ each body (words n) t ∙ ap (λ (x : Script). counted k (follow x s (place c))) (sym r)
 
   module _ {r : SampleKind} (q : Is-kind r f) where
-    pub flows-arm : {n : ℕ} (at : ℕ) {v p : Passed} {o : Out ℕ} → r ≡ kind.Flows n → Ends (words (n - 8)) s (passed.Got c) v → Then (words 8) s v p (numbers 8 s at) → o ≡ rest-of (flow 8 8) s p (be4 s (at + 28)) k
-        → o ≡ counted k (follow (opened (samples 8) f) s (place c))
+    pub flows-arm : {n : ℕ} (at : ℕ) {v p : Passed} {o : Out ℕ} → r ≡ kind.Flows n → Ends (words (n - 8)) s (passed.Got c) v → Then (words 8) s v p (numbers 8 s at) → o ≡ rest-of (flow depth-limit depth-limit) s p (be4 s (at + 28)) k
+        → o ≡ counted k (follow (opened (samples depth-limit) f) s (place c))
     flows-arm {n} at {p = p} e (ends {vs} t) u i =
         let y : n - 8 + 8 ≡ n = omega (arith, flows-eight q e) in
         let h : words (n - 8) ++ words 8 ≡ words n = eight-more (n - 8) ∙ ap words y in
         let z : last-number (vs ++ numbers 8 s at) ≡ be4 s (at + 28) = last-behind vs (numbers 8 s at) (omega arith) ∙ last-of 8 s at (omega arith) in
-        let w = each (flow 8 8) (words (n - 8) ++ words 8) (both t u) in
-        i ∙ ap (λ (m : ℕ). rest-of (flow 8 8) s p m k) (sym z) ∙ w ∙ ap (λ (l : List Field). counted k (follow (fields l (λ us. repeat (last-number us) (flow 8 8) (λ a. give a))) s (place c))) h
+        let w = each (flow depth-limit depth-limit) (words (n - 8) ++ words 8) (both t u) in
+        i ∙ ap (λ (m : ℕ). rest-of (flow depth-limit depth-limit) s p m k) (sym z) ∙ w ∙ ap (λ (l : List Field). counted k (follow (fields l (λ us. repeat (last-number us) (flow depth-limit depth-limit) (λ a. give a))) s (place c))) h
         ∙ ap (λ (x : Script). counted k (follow x s (place c))) (sym (q .is ∙ ap held e))
 
-    pub counters-arm : {n : ℕ} (at : ℕ) {p : Passed} {o : Out ℕ} → r ≡ kind.Counters n → Then (words n) s (passed.Got c) p (numbers n s at) → o ≡ rest-of counter s p (be4 s (at + (4 * n - 4))) k → o ≡ counted k (follow (opened (samples 8) f) s (place c))
+    pub counters-arm : {n : ℕ} (at : ℕ) {p : Passed} {o : Out ℕ} → r ≡ kind.Counters n → Then (words n) s (passed.Got c) p (numbers n s at) → o ≡ rest-of counter s p (be4 s (at + (4 * n - 4))) k → o ≡ counted k (follow (opened (samples depth-limit) f) s (place c))
     counters-arm {n} at e t i = by-last n counter at (q .is ∙ ap held e) (omega (arith, q .some, ap words-of e)) t i
 
-    pub raw-arm : r ≡ kind.Raw → got k (place c) ≡ counted k (follow (opened (samples 8) f) s (place c))
+    pub raw-arm : r ≡ kind.Raw → got k (place c) ≡ counted k (follow (opened (samples depth-limit) f) s (place c))
     unfolding follow
     raw-arm e = counted-none k (place c) (ap (λ (x : Script). follow x s (place c)) (sym (q .is ∙ ap held e)))
 
 -- ---- the flow records behind its words: those passed ahead, and the others
 module _ (s : List ℕ) (k : ℕ) {q : Passed} {d : Cursor} (e : q ≡ passed.Got d) {n m : ℕ} (z : n ≡ m) {a : Ahead} (h : Ahead-of s d n k a) where
-  pub ahead-all : a .rest ≡ 0 → got (a .count) (place (a .cursor)) ≡ rest-of (flow 8 8) s q m k
+  pub ahead-all : a .rest ≡ 0 → got (a .count) (place (a .cursor)) ≡ rest-of (flow depth-limit depth-limit) s q m k
   unfolding rest-of
-  ahead-all y = rw (e, ← z) (scan-done (flow 8 8) s (a .cursor) (a .count) (a .rest) (h .same) (omega arith))
+  ahead-all y = rw (e, ← z) (scan-done (flow depth-limit depth-limit) s (a .cursor) (a .count) (a .rest) (h .same) (omega arith))
 
-  pub ahead-rest : {o : Out ℕ} → o ≡ counted (a .count) (times (a .rest) (follow (flow 8 8)) s (place (a .cursor))) → o ≡ rest-of (flow 8 8) s q m k
+  pub ahead-rest : {o : Out ℕ} → o ≡ counted (a .count) (times (a .rest) (follow (flow depth-limit depth-limit)) s (place (a .cursor))) → o ≡ rest-of (flow depth-limit depth-limit) s q m k
   unfolding rest-of
   ahead-rest i = rw (e, ← z) (i ∙ h .same)
 

@@ -3,6 +3,7 @@ use Prim.Native.Nat.{ℕ, _+_, _≤_}
 use mathlib.Core.Path.{_≡_}
 use mathlib.Core.List.{List}
 use lib.ListN.{length}
+use Rattle.reading.specs.Sizes.{depth-limit}
 use Rattle.reading.specs.Script.{nothing, Script, give, repeat}
 use Rattle.reading.specs.Cursor.{Out, times, follow}
 use Rattle.reading.specs.Layout.{fields, words, last-number, opened, flow, counter, samples}
@@ -23,7 +24,7 @@ abbrev pub counted-by-last : ℕ → Script → Script
 counted-by-last n body = fields (words n) (λ us. repeat (last-number us) body (λ a. give a))
 
 abbrev pub held : SampleKind → Script
-held (kind.Flows n) = counted-by-last n (flow 8 8)
+held (kind.Flows n) = counted-by-last n (flow depth-limit depth-limit)
 held (kind.Counters n) = counted-by-last n counter
 held kind.Raw = give nothing
 
@@ -39,7 +40,7 @@ eight-of (kind.Counters n) = 0
 eight-of kind.Raw = 0
 
 pub record Is-kind (r : SampleKind) (f : ℕ) : Type 0 where
-  pub is : opened (samples 8) f ≡ held r
+  pub is : opened (samples depth-limit) f ≡ held r
   pub some : 1 ≤ words-of r
   pub few : words-of r ≤ 11
   pub eight : eight-of r ≤ words-of r

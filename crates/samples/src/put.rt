@@ -2,6 +2,7 @@
 ghost use mathlib.Core.Path.{_≡_};
 ghost use Prim.Native.Nat.{_≤_};
 ghost use lib.ListN.{length};
+ghost use Rattle.reading.specs.Sizes.{depth-limit};
 ghost use Rattle.reading.specs.Bytes.{be4};
 ghost use Rattle.reading.specs.Cursor.{times, follow};
 ghost use Rattle.reading.specs.Layout.{opened, flow, counter, samples, sample};
@@ -9,6 +10,7 @@ ghost use Rattle.reading.specs.Answer.{from};
 ghost use Rattle.store.specs.Written.{Ready, written, placed, filled, fills};
 use crate::heads::SampleKind;
 use crate::heads::kind_of;
+use flows::MAX_DEPTH;
 use flows::put::put_flat_records;
 use flows::put::put_pdus;
 use store::Pen;
@@ -16,6 +18,9 @@ use store::Written;
 use store::index_at;
 use store::put_frame;
 use xdr::load;
+
+// The levels that are left below a sample's own records.
+const LEVELS_BELOW: usize = MAX_DEPTH - 1;
 
 // n counter records in a row.
 fn put_counter_records(s: &[u8], at: usize, n: u32, store: &mut [u32], pen: Pen) -> Written
@@ -53,8 +58,8 @@ fn put_counter_records(s: &[u8], at: usize, n: u32, store: &mut [u32], pen: Pen)
 // An aggregation among the flow records of a sample: its own descriptor, and its PDUs behind that.
 fn put_aggregation(s: &[u8], at: usize, store: &mut [u32], pen: Pen) -> Written
     requires { ⌜ be4 (now s) at ≡ 1016 ⌝ }
-    requires { ⌜ Ready (now s) (now store) pen (follow (flow 8 8) (now s) (from at)) ⌝ }
-    ensures { λ r. ⌜ written r (now (store .exit)) ≡ placed pen (follow (flow 8 8) (now (s .entry)) (from at)) (now (store .entry)) ⌝ }
+    requires { ⌜ Ready (now s) (now store) pen (follow (flow depth-limit depth-limit) (now s) (from at)) ⌝ }
+    ensures { λ r. ⌜ written r (now (store .exit)) ≡ placed pen (follow (flow depth-limit depth-limit) (now (s .entry)) (from at)) (now (store .entry)) ⌝ }
 {
     let base = pen.base;
     let word = pen.word;
@@ -62,14 +67,14 @@ fn put_aggregation(s: &[u8], at: usize, store: &mut [u32], pen: Pen) -> Written
     Written {
         at: own.at,
         // Lent anew, so that its two words go to the stack only where there is a call.
-        word: put_pdus(&*s, at + 8, 7, store, base, word),
+        word: put_pdus(&*s, at + 8, LEVELS_BELOW, store, base, word),
     }
 }
 
 // n flow records of a sample: flat ones in one loop, then an aggregation, where there is one, and so on.
 fn put_sample_flows(s: &[u8], at: usize, n: u32, store: &mut [u32], pen: Pen) -> usize
-    requires { ⌜ Ready (now s) (now store) pen (times n (follow (flow 8 8)) (now s) (from at)) ⌝ }
-    ensures { λ r. ⌜ filled r (now (store .exit)) ≡ fills pen (times n (follow (flow 8 8)) (now (s .entry)) (from at)) (now (store .entry)) ⌝ }
+    requires { ⌜ Ready (now s) (now store) pen (times n (follow (flow depth-limit depth-limit)) (now s) (from at)) ⌝ }
+    ensures { λ r. ⌜ filled r (now (store .exit)) ≡ fills pen (times n (follow (flow depth-limit depth-limit)) (now (s .entry)) (from at)) (now (store .entry)) ⌝ }
 {
     let base = pen.base;
     let parent = pen.parent;
@@ -82,7 +87,7 @@ fn put_sample_flows(s: &[u8], at: usize, n: u32, store: &mut [u32], pen: Pen) ->
             parent: parent,
             word: word,
         };
-        let flat = put_flat_records(s, cur, rest, 8, &mut *store, to);
+        let flat = put_flat_records(s, cur, rest, MAX_DEPTH, &mut *store, to);
         if flat.rest == 0 {
             return flat.word;
         }
@@ -102,8 +107,8 @@ fn put_sample_flows(s: &[u8], at: usize, n: u32, store: &mut [u32], pen: Pen) ->
 // What a sample of this format holds.
 fn put_sample_data(s: &[u8], at: usize, format: u32, store: &mut [u32], pen: Pen) -> usize
     requires { ⌜ at ≤ length (now s) ⌝ }
-    requires { ⌜ Ready (now s) (now store) pen (follow (opened (samples 8) format) (now s) (from at)) ⌝ }
-    ensures { λ r. ⌜ filled r (now (store .exit)) ≡ fills pen (follow (opened (samples 8) format) (now (s .entry)) (from at)) (now (store .entry)) ⌝ }
+    requires { ⌜ Ready (now s) (now store) pen (follow (opened (samples depth-limit) format) (now s) (from at)) ⌝ }
+    ensures { λ r. ⌜ filled r (now (store .exit)) ≡ fills pen (follow (opened (samples depth-limit) format) (now (s .entry)) (from at)) (now (store .entry)) ⌝ }
 {
     match kind_of(format) {
         SampleKind::Flows(k) => {
@@ -123,8 +128,8 @@ fn put_sample_data(s: &[u8], at: usize, format: u32, store: &mut [u32], pen: Pen
 
 // One sample: its own descriptor, and what it holds behind that.
 fn put_sample(s: &[u8], at: usize, store: &mut [u32], pen: Pen) -> Written
-    requires { ⌜ Ready (now s) (now store) pen (follow (sample 8) (now s) (from at)) ⌝ }
-    ensures { λ r. ⌜ written r (now (store .exit)) ≡ placed pen (follow (sample 8) (now (s .entry)) (from at)) (now (store .entry)) ⌝ }
+    requires { ⌜ Ready (now s) (now store) pen (follow (sample depth-limit) (now s) (from at)) ⌝ }
+    ensures { λ r. ⌜ written r (now (store .exit)) ≡ placed pen (follow (sample depth-limit) (now (s .entry)) (from at)) (now (store .entry)) ⌝ }
 {
     let format = load::be32(s, at);
     let base = pen.base;
@@ -149,8 +154,8 @@ fn put_sample(s: &[u8], at: usize, store: &mut [u32], pen: Pen) -> Written
 
 // n samples in a row.
 pub fn put_samples(s: &[u8], at: usize, n: u32, store: &mut [u32], pen: Pen) -> Written
-    requires { ⌜ Ready (now s) (now store) pen (times n (follow (sample 8)) (now s) (from at)) ⌝ }
-    ensures { λ r. ⌜ written r (now (store .exit)) ≡ placed pen (times n (follow (sample 8)) (now (s .entry)) (from at)) (now (store .entry)) ⌝ }
+    requires { ⌜ Ready (now s) (now store) pen (times n (follow (sample depth-limit)) (now s) (from at)) ⌝ }
+    ensures { λ r. ⌜ written r (now (store .exit)) ≡ placed pen (times n (follow (sample depth-limit)) (now (s .entry)) (from at)) (now (store .entry)) ⌝ }
 {
     let base = pen.base;
     let parent = pen.parent;

@@ -1,6 +1,7 @@
 // The first pass over samples, which counts descriptors and keeps nothing.
 ghost use mathlib.Core.Path.{_≡_};
 ghost use Prim.Native.Nat.{_+_, _-_, _≤_};
+ghost use Rattle.reading.specs.Sizes.{depth-limit};
 ghost use Rattle.reading.specs.Bytes.{be4};
 ghost use Rattle.reading.specs.Cursor.{times, follow};
 ghost use Rattle.reading.specs.Layout.{words, opened, flow, counter, samples, sample};
@@ -11,6 +12,7 @@ ghost use Rattle.layout.specs.Chain.{Ends};
 ghost use Rattle.samples.specs.Held.{Counted, Has-last, rest-of};
 use crate::heads::SampleKind;
 use crate::heads::kind_of;
+use flows::MAX_DEPTH;
 use flows::scan;
 use flows::scan_ahead;
 use layout::field;
@@ -59,7 +61,7 @@ fn counter_records(s: &[u8], c: Cursor, n: u32, count: usize) -> Scanned
 fn flows_behind(s: &[u8], row: WordsAt, last: usize, count: usize) -> Scanned
     requires { ⌜ Counted (now s) (row .passed) count ⌝ }
     requires { ⌜ Has-last (now s) (row .passed) (row .at) last ⌝ }
-    ensures { λ r. ⌜ scanned-out r ≡ rest-of (flow 8 8) (now (s .entry)) (row .passed) (be4 (now (s .entry)) (row .at + last)) count ⌝ }
+    ensures { λ r. ⌜ scanned-out r ≡ rest-of (flow depth-limit depth-limit) (now (s .entry)) (row .passed) (be4 (now (s .entry)) (row .at + last)) count ⌝ }
 {
     let passed = row.passed;
     match passed {
@@ -72,7 +74,7 @@ fn flows_behind(s: &[u8], row: WordsAt, last: usize, count: usize) -> Scanned
                 return Scanned::Got(cur, a.count);
             }
             // Lent anew, so that its two words go to the stack only where there is a call.
-            scan::flow_records(&*s, cur, a.rest, 8, a.count)
+            scan::flow_records(&*s, cur, a.rest, MAX_DEPTH, a.count)
         }
     }
 }
@@ -110,7 +112,7 @@ fn before_eight(c: Cursor, s: &[u8], n: u32) -> Passed
 // What a sample of this format holds.
 fn sample_data(s: &[u8], c: Cursor, format: u32, count: usize) -> Scanned
     requires { ⌜ Scan (now s) c count ⌝ }
-    ensures { λ r. ⌜ scanned-out r ≡ counted count (follow (opened (samples 8) format) (now (s .entry)) (place c)) ⌝ }
+    ensures { λ r. ⌜ scanned-out r ≡ counted count (follow (opened (samples depth-limit) format) (now (s .entry)) (place c)) ⌝ }
 {
     match kind_of(format) {
         SampleKind::Flows(n) => {
@@ -128,7 +130,7 @@ fn sample_data(s: &[u8], c: Cursor, format: u32, count: usize) -> Scanned
 // One sample.
 fn one_sample(s: &[u8], c: Cursor, count: usize) -> Scanned
     requires { ⌜ Scan (now s) c count ⌝ }
-    ensures { λ r. ⌜ scanned-out r ≡ counted count (follow (sample 8) (now (s .entry)) (place c)) ⌝ }
+    ensures { λ r. ⌜ scanned-out r ≡ counted count (follow (sample depth-limit) (now (s .entry)) (place c)) ⌝ }
 {
     match Frame::parse(c, s) {
         Frame::Stop(r) => Scanned::Stop(r),
@@ -156,7 +158,7 @@ fn one_sample(s: &[u8], c: Cursor, count: usize) -> Scanned
 // n samples in a row.
 pub fn samples(s: &[u8], c: Cursor, n: u32, count: usize) -> Scanned
     requires { ⌜ Scan (now s) c count ⌝ }
-    ensures { λ r. ⌜ scanned-out r ≡ counted count (times n (follow (sample 8)) (now (s .entry)) (place c)) ⌝ }
+    ensures { λ r. ⌜ scanned-out r ≡ counted count (times n (follow (sample depth-limit)) (now (s .entry)) (place c)) ⌝ }
 {
     let mut cur = c;
     let mut found = count;

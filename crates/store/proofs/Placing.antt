@@ -12,7 +12,8 @@ use Rattle.reading.specs.Bytes.{be4, padded}
 use Rattle.reading.specs.Script.{Range, Forest, bare, tree, _⊕_, Found, Script}
 use Rattle.reading.specs.Cursor.{Out, times, follow}
 use Rattle.reading.specs.Layout.{framed}
-use Rattle.reading.specs.Answer.{row-words, size, row-of, rows, from}
+use Rattle.reading.specs.Answer.{size, row-of, rows, from}
+use Rattle.reading.specs.Sizes.{descriptor-words}
 use Rattle.reading.proofs.Counts.{size-joined}
 use Rattle.reading.proofs.Stored.{write, write-length, write-none, write-then, write-under, rows-length, rows-joined, rows-one}
 use Rattle.reading.proofs.Places.{ranges-of, end-of, Frame-at, frame-lies, Turn-at, turn-lies, none-lies}
@@ -28,7 +29,7 @@ module _ {a b : ℕ} {l′ : List ℕ} (pen : Pen) (o : Out Found) (l : List ℕ
   unfolding placed
   at-is = ap (λ (x : Put). x .at) e
 
-  pub word-is : b ≡ pen .word + row-words * size (ranges-of o)
+  pub word-is : b ≡ pen .word + descriptor-words * size (ranges-of o)
   unfolding placed
   word-is = ap (λ (x : Put). x .word) e
 
@@ -44,23 +45,23 @@ pub kept-on : {a b : ℕ} {l′ : List ℕ} (pen : Pen) (o : Out Found) (l : Lis
 kept-on pen o l n e k = put-kept pen o l e ∙ k
 
 -- k descriptors on, the index is k more
-pub index-on : (w k : ℕ) → (w + row-words * k) / row-words ≡ w / row-words + k
+pub index-on : (w k : ℕ) → (w + descriptor-words * k) / descriptor-words ≡ w / descriptor-words + k
 index-on w k = omega arith
 
 -- one forest behind another is placed as the two of them
 module _ (base parent word : ℕ) (l : List ℕ) where
-  pub two-placed : {a b c m : ℕ} {t : Forest} {l″ : List ℕ} (f r : Forest) → b ≡ c → a ≡ b → t ≡ f ⊕ r → m ≡ word + row-words * size f → l″ ≡ write l word (rows (base + word / row-words) parent f)
-      → a-put c (m + row-words * size r) (write l″ m (rows (base + m / row-words) parent r)) ≡ a-put a (word + row-words * size t) (write l word (rows (base + word / row-words) parent t))
+  pub two-placed : {a b c m : ℕ} {t : Forest} {l″ : List ℕ} (f r : Forest) → b ≡ c → a ≡ b → t ≡ f ⊕ r → m ≡ word + descriptor-words * size f → l″ ≡ write l word (rows (base + word / descriptor-words) parent f)
+      → a-put c (m + descriptor-words * size r) (write l″ m (rows (base + m / descriptor-words) parent r)) ≡ a-put a (word + descriptor-words * size t) (write l word (rows (base + word / descriptor-words) parent t))
   two-placed {a} {b} {c} {m} {t} {l″} f r i j k x y =
-      let p : m + row-words * size r ≡ word + row-words * size t = ap (λ (v : ℕ). v + row-words * size r) x ∙ rw (k, size-joined) (omega arith) in
-      let q : base + m / row-words ≡ base + word / row-words + size f = rw (x, index-on) (omega arith) in
-      let v : m ≡ word + length (rows (base + word / row-words) parent f) = rw rows-length x in
-      let d : write l″ m (rows (base + m / row-words) parent r) ≡ write l word (rows (base + word / row-words) parent t) =
-      ap (λ (z : List ℕ). write z m (rows (base + m / row-words) parent r)) y
-      ∙ write-then (rows (base + word / row-words) parent f) (rows (base + m / row-words) parent r) l word m v
-      ∙ ap (λ (z : ℕ). write l word (rows (base + word / row-words) parent f ++ rows z parent r)) q
-      ∙ ap (λ (z : List ℕ). write l word z) (sym (rows-joined (base + word / row-words) parent f r))
-      ∙ ap (λ (z : Forest). write l word (rows (base + word / row-words) parent z)) (sym k) in
+      let p : m + descriptor-words * size r ≡ word + descriptor-words * size t = ap (λ (v : ℕ). v + descriptor-words * size r) x ∙ rw (k, size-joined) (omega arith) in
+      let q : base + m / descriptor-words ≡ base + word / descriptor-words + size f = rw (x, index-on) (omega arith) in
+      let v : m ≡ word + length (rows (base + word / descriptor-words) parent f) = rw rows-length x in
+      let d : write l″ m (rows (base + m / descriptor-words) parent r) ≡ write l word (rows (base + word / descriptor-words) parent t) =
+      ap (λ (z : List ℕ). write z m (rows (base + m / descriptor-words) parent r)) y
+      ∙ write-then (rows (base + word / descriptor-words) parent f) (rows (base + m / descriptor-words) parent r) l word m v
+      ∙ ap (λ (z : ℕ). write l word (rows (base + word / descriptor-words) parent f ++ rows z parent r)) q
+      ∙ ap (λ (z : List ℕ). write l word z) (sym (rows-joined (base + word / descriptor-words) parent f r))
+      ∙ ap (λ (z : Forest). write l word (rows (base + word / descriptor-words) parent z)) (sym k) in
       λ h. record { at = (sym i ∙ sym j) h; word = p h; store = d h }
 
 -- ---- so many in a row
@@ -89,7 +90,7 @@ module _ (sc : Script) (n : ℕ) (s l : List ℕ) (at base parent word : ℕ) wh
     end : a ≡ end-of (follow sc s (from at))
     end = at-is (a-pen base parent word) _ l e
 
-    on : b ≡ word + row-words * size (ranges-of (follow sc s (from at)))
+    on : b ≡ word + descriptor-words * size (ranges-of (follow sc s (from at)))
     on = word-is (a-pen base parent word) _ l e
 
     pub ready-next : Ready s l′ (a-pen base parent b) (times (n - 1) (follow sc) s (from a))
@@ -120,20 +121,20 @@ module _ (l : List ℕ) (base parent word : ℕ) (r : Range) (inner : Forest) wh
 
   -- what it holds, as it is written behind its own words
   abbrev held : List ℕ
-  held = rows (index (held-by base word)) (base + word / row-words) inner
+  held = rows (index (held-by base word)) (base + word / descriptor-words) inner
 
-  both-written : write l word (words-of ++ held) ≡ write l word (rows (base + word / row-words) parent (tree r inner bare))
+  both-written : write l word (words-of ++ held) ≡ write l word (rows (base + word / descriptor-words) parent (tree r inner bare))
   both-written =
-      let k : base + (word + row-words) / row-words ≡ base + word / row-words + 1 = omega arith in
-      ap (λ (z : ℕ). write l word (words-of ++ rows z (base + word / row-words) inner)) k ∙ ap (λ (z : List ℕ). write l word z) (sym (rows-one (base + word / row-words) parent r inner))
+      let k : base + (word + descriptor-words) / descriptor-words ≡ base + word / descriptor-words + 1 = omega arith in
+      ap (λ (z : ℕ). write l word (words-of ++ rows z (base + word / descriptor-words) inner)) k ∙ ap (λ (z : List ℕ). write l word z) (sym (rows-one (base + word / descriptor-words) parent r inner))
 
   -- first its own
-  own-first : {l′ l″ : List ℕ} → l′ ≡ write l word words-of → l″ ≡ write l′ (word + row-words) held → l″ ≡ write l word (rows (base + word / row-words) parent (tree r inner bare))
-  own-first h q = q ∙ ap (λ (z : List ℕ). write z (word + row-words) held) h ∙ write-then words-of held l word (word + row-words) refl ∙ both-written
+  own-first : {l′ l″ : List ℕ} → l′ ≡ write l word words-of → l″ ≡ write l′ (word + descriptor-words) held → l″ ≡ write l word (rows (base + word / descriptor-words) parent (tree r inner bare))
+  own-first h q = q ∙ ap (λ (z : List ℕ). write z (word + descriptor-words) held) h ∙ write-then words-of held l word (word + descriptor-words) refl ∙ both-written
 
   -- or its own last
-  pub own-last : {l′ l″ : List ℕ} → l′ ≡ write l (word + row-words) held → l″ ≡ write l′ word words-of → l″ ≡ write l word (rows (base + word / row-words) parent (tree r inner bare))
-  own-last h q = q ∙ ap (λ (z : List ℕ). write z word words-of) h ∙ write-under words-of held l word (word + row-words) refl ∙ both-written
+  pub own-last : {l′ l″ : List ℕ} → l′ ≡ write l (word + descriptor-words) held → l″ ≡ write l′ word words-of → l″ ≡ write l word (rows (base + word / descriptor-words) parent (tree r inner bare))
+  own-last h q = q ∙ ap (λ (z : List ℕ). write z word words-of) h ∙ write-under words-of held l word (word + descriptor-words) refl ∙ both-written
 
 -- ---- numbers that fit
 module _ (s l : List ℕ) (pen : Pen) (o : Out Found) (g : Ready s l pen o) where
@@ -142,12 +143,12 @@ module _ (s l : List ℕ) (pen : Pen) (o : Out Found) (g : Ready s l pen o) wher
 
 -- ---- a frame's own descriptor
 pub frame-put : (kind depth : ℕ) (s l : List ℕ) (at : ℕ) (pen : Pen) {n f p : ℕ} {l′ : List ℕ} → n ≡ be4 s (at + 4) → f ≡ be4 s at → p ≡ padded n
-    → l′ ≡ write l (pen .word) (row-of (pen .parent) (record { kind = kind; format = f; span = record { start = at + 8; count = n }; depth = depth; first = at })) → a-put (at + 8 + p) (pen .word + row-words) l′ ≡ framed-at kind depth s at pen l
+    → l′ ≡ write l (pen .word) (row-of (pen .parent) (record { kind = kind; format = f; span = record { start = at + 8; count = n }; depth = depth; first = at })) → a-put (at + 8 + p) (pen .word + descriptor-words) l′ ≡ framed-at kind depth s at pen l
 unfolding framed-at
 frame-put kind depth s l at pen {n} {f} {p} {l′} v u z q =
     let x : at + 8 + p ≡ at + 8 + padded (be4 s (at + 4)) = ap (λ (m : ℕ). at + 8 + m) (z ∙ ap padded v) in
     let y : l′ ≡ write l (pen .word) (row-of (pen .parent) (frame-range kind depth s at)) = rw (v, u) at q in
-    λ h. record { at = x h; word = pen .word + row-words; store = y h }
+    λ h. record { at = x h; word = pen .word + descriptor-words; store = y h }
 
 -- ---- a frame: its format word, its opaque, and what that holds
 module _ (kind depth : ℕ) (body : ℕ → Script) (s l : List ℕ) (at : ℕ) (pen : Pen) (g : Ready s l pen (follow (framed kind depth body) s (from at))) where
@@ -176,7 +177,7 @@ module _ (kind depth : ℕ) (body : ℕ → Script) (s l : List ℕ) (at : ℕ) 
     unfolding framed-at
     own-at = ap (λ (x : Put). x .at) e
 
-    pub own-word : b ≡ pen .word + row-words
+    pub own-word : b ≡ pen .word + descriptor-words
     unfolding framed-at
     own-word = ap (λ (x : Put). x .word) e
 
@@ -202,10 +203,10 @@ module _ (kind depth : ℕ) (body : ℕ → Script) (s l : List ℕ) (at : ℕ) 
           let r : Range = frame-range kind depth s at in
           let o : Forest = ranges-of (follow (body (be4 s at)) s (from (at + 8))) in
           let y : l′ ≡ write l (pen .word) (row-of (pen .parent) (frame-range kind depth s at)) = rw i at own-store in
-          let z : l″ ≡ write l′ (pen .word + row-words) (rows (index (held-by (pen .base) (pen .word))) (index pen) o) = rw u at (ap (λ (x : Filled). x .store) j) in
-          let n : m ≡ pen .word + row-words + row-words * size o = rw u at (ap (λ (x : Filled). x .word) j) in
+          let z : l″ ≡ write l′ (pen .word + descriptor-words) (rows (index (held-by (pen .base) (pen .word))) (index pen) o) = rw u at (ap (λ (x : Filled). x .store) j) in
+          let n : m ≡ pen .word + descriptor-words + descriptor-words * size o = rw u at (ap (λ (x : Filled). x .word) j) in
           let x : a ≡ end-of (follow (framed kind depth body) s (from at)) = own-at ∙ sym (frame .end) in
-          let t : m ≡ pen .word + row-words * size (ranges-of (follow (framed kind depth body) s (from at))) = n ∙ rw frame-size (omega arith) in
+          let t : m ≡ pen .word + descriptor-words * size (ranges-of (follow (framed kind depth body) s (from at))) = n ∙ rw frame-size (omega arith) in
           let w : l″ ≡ write l (pen .word) (rows (index pen) (pen .parent) (ranges-of (follow (framed kind depth body) s (from at)))) =
           own-first l (pen .base) (pen .parent) (pen .word) r o y z ∙ ap (λ (x : Forest). write l (pen .word) (rows (index pen) (pen .parent) x)) (sym (frame .ranges)) in
           λ h. record { at = x h; word = t h; store = w h }

@@ -5,7 +5,8 @@ use lib.ListN.{length}
 use Rattle.reading.specs.Bytes.{be4, padded}
 use Rattle.reading.specs.Script.{Range, Found}
 use Rattle.reading.specs.Cursor.{Out}
-use Rattle.reading.specs.Answer.{row-words, size, row-of, rows}
+use Rattle.reading.specs.Answer.{size, row-of, rows}
+use Rattle.reading.specs.Sizes.{descriptor-words, longest-input}
 use Rattle.reading.proofs.Places.{Accepted, ranges-of, end-of}
 use Rattle.reading.proofs.Stored.{write}
 use Rattle.store.specs.declared.Descriptor.{Descriptor}
@@ -14,14 +15,14 @@ use Rattle.store.specs.declared.Written.{Written}
 
 -- the index of the descriptor that a pen writes next
 abbrev pub index : Pen → ℕ
-index pen = pen .base + pen .word / row-words
+index pen = pen .base + pen .word / descriptor-words
 
 -- the reading o is accepted, the store l has room for its descriptors, and every number of them fits a word
 pub record Ready (s l : List ℕ) (pen : Pen) (o : Out Found) : Type 0 where
-  pub short : length s ≤ 16777216
+  pub short : length s ≤ longest-input
   pub good : Accepted o
-  pub room : pen .word + row-words * size (ranges-of o) ≤ length l
-  pub few : index pen + size (ranges-of o) ≤ 16777216
+  pub room : pen .word + descriptor-words * size (ranges-of o) ≤ length l
+  pub few : index pen + size (ranges-of o) ≤ longest-input
 
 -- the range that a descriptor is of
 abbrev pub range-of : Descriptor → Range
@@ -41,12 +42,12 @@ a-pen b p w = record { base = b; parent = p; word = w }
 
 -- the pen for what the range holds whose own descriptor is at a word
 abbrev pub held-by : (base word : ℕ) → Pen
-held-by b w = record { base = b; parent = b + w / row-words; word = w + row-words }
+held-by b w = record { base = b; parent = b + w / descriptor-words; word = w + descriptor-words }
 
 unfoldable pub placed : Pen → Out Found → List ℕ → Put
 placed pen o l = record {
   at = end-of o;
-  word = pen .word + row-words * size (ranges-of o);
+  word = pen .word + descriptor-words * size (ranges-of o);
   store = write l (pen .word) (rows (index pen) (pen .parent) (ranges-of o));
 }
 
@@ -67,9 +68,9 @@ fills pen o l = record { word = placed pen o l .word; store = placed pen o l .st
 -- it lies at a place, and the store has room for its descriptor
 pub record Framed-here (s l : List ℕ) (at : ℕ) (pen : Pen) : Type 0 where
   pub fits : at + 8 + padded (be4 s (at + 4)) ≤ length s
-  pub short : length s ≤ 16777216
-  pub room : pen .word + row-words ≤ length l
-  pub few : pen .word / row-words + 1 ≤ 16777216
+  pub short : length s ≤ longest-input
+  pub room : pen .word + descriptor-words ≤ length l
+  pub few : pen .word / descriptor-words + 1 ≤ longest-input
 
 -- the range of a frame at a place: its first byte is that of its format word
 abbrev pub frame-range : (kind depth : ℕ) (s : List ℕ) (at : ℕ) → Range
@@ -78,6 +79,6 @@ frame-range kind depth s at = record { kind = kind; format = be4 s at; span = re
 unfoldable pub framed-at : (kind depth : ℕ) (s : List ℕ) (at : ℕ) → Pen → List ℕ → Put
 framed-at kind depth s at pen l = record {
   at = at + 8 + padded (be4 s (at + 4));
-  word = pen .word + row-words;
+  word = pen .word + descriptor-words;
   store = write l (pen .word) (row-of (pen .parent) (frame-range kind depth s at));
 }

@@ -2,7 +2,8 @@
 ghost use mathlib.Core.Path.{_≡_};
 ghost use Prim.Native.Nat.{_+_, _/_, _^_, _≤_, _<_};
 ghost use lib.ListN.{length};
-ghost use Rattle.reading.specs.Answer.{row-words, row-of};
+ghost use Rattle.reading.specs.Answer.{row-of};
+ghost use Rattle.reading.specs.Sizes.{descriptor-words};
 ghost use Rattle.reading.proofs.Stored.{write};
 ghost use Rattle.store.specs.Written.{range-of, Framed-here, written, framed-at};
 use numbers::DataFormat;
@@ -37,15 +38,15 @@ pub const DESCRIPTOR_WORDS: usize = 7;
 
 // The index of the descriptor that begins at a word.
 pub fn index_at(base: u32, word: usize) -> u32
-    requires { ⌜ base + word / row-words < 2 ^ 32 ⌝ }
-    ensures { λ r. ⌜ r ≡ base + word / row-words ⌝ }
+    requires { ⌜ base + word / descriptor-words < 2 ^ 32 ⌝ }
+    ensures { λ r. ⌜ r ≡ base + word / descriptor-words ⌝ }
 {
     base + (word / DESCRIPTOR_WORDS) as u32
 }
 
 // The one place that stores.
 pub fn put(store: &mut [u32], at: usize, d: Descriptor)
-    requires { ⌜ at + row-words ≤ length (now store) ⌝ }
+    requires { ⌜ at + descriptor-words ≤ length (now store) ⌝ }
     ensures { λ r. ⌜ now (store .exit) ≡ write (now (store .entry)) at (row-of (d .parent) (range-of d)) ⌝ }
 {
     store[at] = d.kind;

@@ -14,7 +14,8 @@ use Rattle.reading.specs.Bytes.{be4, be8, signed, padded}
 use Rattle.reading.specs.Utf8.{well-formed}
 use Rattle.reading.proofs.Utf8Longest.{all-well, part-well}
 use Rattle.reading.specs.Script.{number, integer, part, nothing, word, long, int, opaque, string}
-use Rattle.reading.specs.Cursor.{got, fixed, max-opaque, bytes, read-item, times, follow}
+use Rattle.reading.specs.Cursor.{got, fixed, bytes, read-item, times, follow}
+use Rattle.reading.specs.Sizes.{longest-opaque}
 use Rattle.reading.specs.Layout.{any-word}
 use Rattle.reading.proofs.Items.{fixed-read, fixed-as, fixed-stops}
 use Rattle.reading.proofs.Opaques as opaques
@@ -104,13 +105,13 @@ module _ (s : List ℕ) (c : Cursor) {w : Word} (e : word-out w ≡ read-item wo
   pub opaque-cut : {x : Outcome} → w ≡ a-word.Stop x → refusal x ≡ read-item opaque s (place c)
   opaque-cut h = opaques.opaque-cut s (place c) (rw h at e)
 
-  pub opaque-long : {v : ℕ} {d : Cursor} {r : Outcome} → w ≡ a-word.Got v d → max-opaque < v → r ≡ refused 5 c → refusal r ≡ read-item opaque s (place c)
+  pub opaque-long : {v : ℕ} {d : Cursor} {r : Outcome} → w ≡ a-word.Got v d → longest-opaque < v → r ≡ refused 5 c → refusal r ≡ read-item opaque s (place c)
   opaque-long h l r = rw r (opaques.opaque-long s (place c) (is-word h) l)
 
-  pub opaque-short : {v n : ℕ} {d : Cursor} {r : Outcome} → w ≡ a-word.Got v d → v ≤ max-opaque → n ≡ padded v → length s - d .at < n → r ≡ refused 2 c → refusal r ≡ read-item opaque s (place c)
+  pub opaque-short : {v n : ℕ} {d : Cursor} {r : Outcome} → w ≡ a-word.Got v d → v ≤ longest-opaque → n ≡ padded v → length s - d .at < n → r ≡ refused 2 c → refusal r ≡ read-item opaque s (place c)
   opaque-short h l z t r = rw r (opaques.opaque-short s (place c) (is-word h) l (rw z at t))
 
-  pub opaque-got : {v n : ℕ} {d : Cursor} → w ≡ a-word.Got v d → v ≤ max-opaque → n ≡ padded v → n ≤ length s - d .at → got (part (record { start = d .at; count = v })) (record { at = d .at + n; steps = d .steps }) ≡ read-item opaque s (place c)
+  pub opaque-got : {v n : ℕ} {d : Cursor} → w ≡ a-word.Got v d → v ≤ longest-opaque → n ≡ padded v → n ≤ length s - d .at → got (part (record { start = d .at; count = v })) (record { at = d .at + n; steps = d .steps }) ≡ read-item opaque s (place c)
   opaque-got h l z t = rw z (opaques.opaque-got s (place c) (is-word h) l (rw z at t))
 
 -- ---- a string by its opaque

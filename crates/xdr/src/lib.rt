@@ -9,7 +9,10 @@ pub mod load;
 mod opaques;
 mod words;
 
-// The longest opaque, as the crate has it.
+// The bytes of the longest input.
+pub const MAX_INPUT_SIZE: usize = 16777216;
+
+// The bytes of the longest opaque, as the crate has it.
 pub const MAX_OPAQUE_SIZE: u32 = 104857600;
 
 // Where a reading stands: the next byte, counted from the input's first, and the items read so far.

@@ -1,12 +1,12 @@
 use Prim.Native.Nat.{ℕ, _*_, _≤_}
 use mathlib.Core.Path.{_≡_}
 use borrow.Author.Needs.{needs}
-use Rattle.reading.specs.Answer.{row-words}
+use Rattle.reading.specs.Sizes.{descriptor-words}
 use Rattle.replay.proofs.print.left.Statement.{statement}
 use Rattle.replay.proofs.print.left.Tie as tie
 
 -- there are descriptors where the code is 0
-there : {code m : ℕ} (n : ℕ) → (code ≡ 0 → row-words * n ≤ m) → code ≡ 0 → row-words * n ≤ m
+there : {code m : ℕ} (n : ℕ) → (code ≡ 0 → descriptor-words * n ≤ m) → code ≡ 0 → descriptor-words * n ≤ m
 there n h e = h e
 
 pub left-spec : {M : Type 1} → statement M

@@ -1,3 +1,4 @@
+use Rattle.reading.specs.Sizes.{depth-limit}
 use Rattle.reading.specs.Layout.{opened, samples}
 use Rattle.store.proofs.Placing as frames
 use Rattle.samples.proofs.Placed.{writing}
@@ -10,9 +11,9 @@ put-sample-spec =
     (tie.spec
     (λ c κs. search writing)  -- be32-requires
     (λ c κs. search writing)  -- index-at-requires
-    (λ c κs. search (frames.frame-here 1 0 (opened (samples 8)), writing))  -- put-frame-requires
+    (λ c κs. search (frames.frame-here 1 0 (opened (samples depth-limit)), writing))  -- put-frame-requires
     (λ c. search writing)  -- add-put-sample-data
     (λ c κs. search writing)  -- put-sample-data-requires
-    (λ c. search (frames.frame-kept 1 0 (opened (samples 8)), writing))  -- same-length
+    (λ c. search (frames.frame-kept 1 0 (opened (samples depth-limit)), writing))  -- same-length
     (λ c. search writing)  -- returns
     )
