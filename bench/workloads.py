@@ -1,4 +1,4 @@
-"""The cases that are measured: inputs by the layouts of document 01, the same on every machine."""
+"""The cases that are measured: inputs by the layouts of docs/RULES.md, the same on every machine."""
 import itertools
 import random
 import struct

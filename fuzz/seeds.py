@@ -1,4 +1,4 @@
-"""What the fuzzer begins with: the captures, the sessions of document 01, and a record of each format."""
+"""What the fuzzer begins with: the captures, the sessions of docs/RULES.md, and a record of each format."""
 import glob
 import hashlib
 import os

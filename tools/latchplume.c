@@ -63,7 +63,7 @@ static void worse(struct work *w, int status)
         w->status = status;
 }
 
-/* The lines of document 01's listing. */
+/* The lines of the listing: docs/RULES.md, 12. */
 static void print_listing(struct work *w, const latchplume_answer *a)
 {
     printf("code=%" PRIu32 " at=%zu steps=%zu descriptors=%zu\n", a->code, a->at, a->steps, a->needed);

@@ -7,7 +7,7 @@
 /* A number in digits, with a comma before each three of them; until the next call. */
 const char *name_of_number(uint32_t number);
 
-/* The words of document 01 for a code; until the next call. */
+/* The words of docs/RULES.md for a code; until the next call. */
 const char *name_of_code(uint32_t code);
 
 /* The name of a format by its kind and format word, or NULL. */

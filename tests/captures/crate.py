@@ -17,7 +17,7 @@ PROGRAM = os.path.join(ROOT, "target", "captures", "release", "told")
 # the table that a field's names are from
 TABLES = {"version": "DatagramVersion", "protocol": "HeaderProtocol", "reason": "DropReason", "direction": "UrlDirection",
           "path_type": "AsPathType"}
-# how the text of a refusal begins, and document 01's code for it
+# how the text of a refusal begins, and the code for it (docs/RULES.md, 5)
 REFUSALS = {"Invalid version": 3, "Invalid address type": 4, "Opaque data length": 5, "Unknown header protocol": 6,
             "Invalid UTF-8 string": 7}
 TOKEN = re.compile(r'\s*(?:"((?:[^"\\]|\\.)*)"|(\w+): |([\[\](){},])|([^\s,(){}\[\]"]+))')
@@ -111,7 +111,7 @@ def parts_at(tokens, at, close):
 
 
 def code_of(value):
-    """Document 01's code for an answer of the crate."""
+    """The code (docs/RULES.md, 5) for an answer of the crate."""
     if value.name == "Ok":
         return 0
     error, = value.parts
@@ -120,7 +120,7 @@ def code_of(value):
         return 2
     code = next((code for text, code in REFUSALS.items() if error.name == "InvalidData" and detail.startswith(text)), None)
     if code is None:
-        raise building.Failed(f"the crate's refusal has no code in document 01: {detail}")
+        raise building.Failed(f"the crate's refusal has no code in docs/RULES.md: {detail}")
     return code
 
 
@@ -175,7 +175,7 @@ def opened(place, value, **counts):
 
 
 def nodes(datagram):
-    """The crate's structure as the descriptors that document 01 has for it. What only the crate opens has neither fields nor payload."""
+    """The crate's structure as the descriptors that the rules have for it. What only the crate opens has neither fields nor payload."""
     head = opened(Place(0, 0, NOBODY, 0), datagram, num_samples=len(datagram.samples))
     found = [head]
     for sample in datagram.samples:

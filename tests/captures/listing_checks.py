@@ -1,4 +1,4 @@
-"""The stored listings, each beside its datagram, against the listing program of today, the library, and the model of document 01."""
+"""The stored listings, each beside its datagram, against the listing program of today, the library, and the model of docs/RULES.md."""
 import glob
 import os
 
@@ -55,4 +55,4 @@ def check(checks, captures):
     for one, answer in zip(captures, answers):
         checks.same(f"{one.name}: the listing program", one.stored, figures.text_of("listing", one.data))
         checks.same(f"{one.name}: the library", one.stored, figures.listing_of(answer))
-        checks.same(f"{one.name}: document 01, as the model reads it", one.stored, figures.listing_of(model.read(one.data)))
+        checks.same(f"{one.name}: the rules, as the model reads them", one.stored, figures.listing_of(model.read(one.data)))

@@ -1,4 +1,4 @@
-"""Document 01's reading of one datagram, with the first bytes of document 02's §6, in Python; and, one at a time, the faults that other decoders
+"""The reading of one datagram by docs/RULES.md, in Python; and, one at a time, the faults that other decoders
 have had."""
 from encoder import MAX_DEPTH, MAX_INPUT, MAX_OPAQUE, NOBODY, descriptor, pads
 from figures import BY_FORMAT, SHAPES, Answer

@@ -1,6 +1,6 @@
 """The listings' figures against tshark: every field that tshark names, with its first byte and its value, and whether it finds a fault.
 
-Where tshark and document 01 part, DECLARED says how and how often, and docs/DIFFERENCES.md why. A difference that is not declared is wrong,
+Where tshark and docs/RULES.md part, DECLARED says how and how often, and docs/DIFFERENCES.md why. A difference that is not declared is wrong,
 and so is a declared one that occurs more or less often."""
 import collections
 
@@ -71,7 +71,7 @@ def count_cut(one, reading, key, ours, theirs):
 # what tshark does; in how many captures, over how many of its fields, as seen with Debian's tshark 4.0.17; and which differences those are
 DECLARED = {
     "does not step over the payload of a counter record that it does not know": (8, 372, not_stepped_over),
-    "opens what document 01 keeps raw": (51, 6340, kept_raw),
+    "opens what the rules keep raw": (51, 6340, kept_raw),
     "shows the sampled header with its pad": (15, 57, with_pad),
     "reads each address of flow record 2 as six bytes and two of pad": (1, 28, wide_addresses),
     "holds a record to the packet and not to its sample": (2, 2, held_to_packet),

@@ -1,5 +1,5 @@
-"""Calls, and what document 01 has them answer and leave in the store: each expected word is the document's own, or follows from its rule
-for descriptors and, for the first byte and for where a string goes bad, from §6 and §3 of document 02."""
+"""Calls, and what docs/RULES.md has them answer and leave in the store: each expected word is a session's own, or follows from the rules
+for descriptors and first bytes (7) and for where a string goes bad (R2.16)."""
 from collections import namedtuple
 
 from library import DESCRIPTOR_WORDS, MAX_DEPTH, NOBODY

@@ -1,4 +1,4 @@
-"""Inputs: sessions of document 01, every kind of flow record at the deepest depth, and long inputs of one shape."""
+"""Inputs: sessions of docs/RULES.md, every kind of flow record at the deepest depth, and long inputs of one shape."""
 import os
 import struct
 import sys

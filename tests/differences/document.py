@@ -12,7 +12,7 @@ from recipes import Recipe, Unreadable
 
 PATH = os.path.join(figures.ROOT, "docs", "DIFFERENCES.md")
 CODE = re.compile(r"`([^`]*)`")
-COLUMNS = {"the crate": "crate", "document 01 and here": "here", "the public documents, others": "others"}
+COLUMNS = {"the crate": "crate", "here": "here", "the public documents, others": "others"}
 
 
 class Row:

@@ -1,4 +1,4 @@
-"""The oracle's own list of differences outside document 01's domain (oracle/judge/src/listed.rs): each is a row of docs/DIFFERENCES.md, with
+"""The oracle's own list of differences outside the domain of equality (oracle/judge/src/listed.rs): each is a row of docs/DIFFERENCES.md, with
 the same answers."""
 import os
 import re

@@ -1,7 +1,7 @@
 """The examples: a call for each layout, each sample, the header and each kind of refusal, and what is expected of it."""
 from structures import MEMO, START, Body, Number, Part, antt_list, number, word, words_of
 
-# Document 01's sizes, as this judge has them: written by hand on purpose, and not taken from the header.
+# The rules' sizes, as this judge has them: written by hand on purpose, and not taken from the header.
 DESCRIPTOR_WORDS = 7
 MAX_OPAQUE = 104857600
 MAX_DEPTH = 8

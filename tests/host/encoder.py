@@ -1,16 +1,16 @@
-"""Datagrams made by the layouts of document 01, with what a decoder must answer for each of them.
+"""Datagrams made by the layouts of docs/RULES.md, with what a decoder must answer for each of them.
 
 The values that it puts in are the values that are expected back; no code of the decoder has a part in either."""
 import struct
 
-# Document 01's sizes, as this judge has them: written by hand on purpose, and not taken from the header, which tests/host/run holds to them.
+# The rules' sizes, as this judge has them: written by hand on purpose, and not taken from the header, which tests/host/run holds to them.
 DESCRIPTOR_WORDS = 7
 MAX_INPUT = 16777216
 MAX_OPAQUE = 104857600
 MAX_DEPTH = 8
 NOBODY = 4294967295
 
-# Document 01's rows, with the crate's names: kind, format, and the fields in order. A field is a word where no shape is named.
+# The rows of docs/RULES.md, 3, with the crate's names: kind, format, and the fields in order. A field is a word where no shape is named.
 LAYOUTS = {
     "header": (0, 0, "version:version agent_address:address sub_agent_id sequence_number uptime num_samples"),
     "flow_sample": (1, 1, "sequence_number source_id sampling_rate sample_pool drops input output num_records"),

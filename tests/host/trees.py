@@ -5,7 +5,7 @@ import re
 import library_checks
 from encoder import Body, LAYOUTS, MAX_DEPTH, MAX_OPAQUE, RECORDS, Span, Wire, of_one_record
 
-# document 01's words
+# the words of docs/RULES.md, 5
 CODES = {
     2: "an item passes the end of what encloses it", 3: "version is not 5", 4: "address type above 2", 5: f"opaque length above {MAX_OPAQUE:,}",
     6: "header protocol unknown to HeaderProtocol", 7: "string is not UTF-8", 8: f"a record would begin at depth {MAX_DEPTH + 1}",

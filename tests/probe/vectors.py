@@ -6,7 +6,7 @@ usage: vectors.py           writes crates/probe/stdin and crates/probe/stdout
        vectors.py --list    prints each vector's name with its line
 
 No code of ours has a part in the expected lines: numbers are struct's, the verdict on UTF-8 and where it goes bad are Python's
-strict decoder's, and other positions, steps and codes are written out below from document 01.
+strict decoder's, and other positions, steps and codes are written out below from docs/RULES.md.
 
 A vector is stored as four bytes, the item's letter, a count (of words, for a run of them), where the cursor starts and how many
 bytes follow; and those bytes. The file ends in a vector that announces more bytes than there are."""
@@ -14,7 +14,7 @@ import os
 import struct
 import sys
 
-# document 01's, as this judge has it: written by hand on purpose, and not taken from the header
+# the rules', as this judge has it: written by hand on purpose, and not taken from the header
 MAX_OPAQUE = 104857600
 
 LETTERS = {
@@ -23,7 +23,7 @@ LETTERS = {
 }
 
 
-# ---- what document 01 says of each item
+# ---- what docs/RULES.md, 2, says of each item
 
 class Refused(Exception):
     """An item is refused: a code, a position, and the steps before it."""

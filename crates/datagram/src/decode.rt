@@ -13,7 +13,7 @@ use xdr::Cursor;
 use xdr::MAX_INPUT_SIZE;
 use xdr::Passed;
 
-// What a call answers: document 01's code, the position, the steps, and the descriptors needed.
+// What a call answers: its code (docs/RULES.md, 5), the position, the steps, and the descriptors needed.
 #[repr(C)]
 pub struct Answer {
     pub code: u32,

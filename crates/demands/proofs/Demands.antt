@@ -212,7 +212,7 @@ module _ (s w : List ℕ) where
   pub steps-own-bytes : (at : List ℕ) × Counted s at × Own 0 (length s) (one s w .steps) at
   steps-own-bytes = one-owns s w
 
-  -- ---- the code is one of document 01's table (`Codes`)
+  -- ---- the code is one of those of the rules (docs/RULES.md, 5; `Codes`)
   pub code-is-listed : known one-codes (one s w .code) ≡ true
   code-is-listed = one-coded s w
 
@@ -241,7 +241,7 @@ module _ (s w : List ℕ) where
   pub run-steps-own-bytes : (at : List ℕ) × Run-counted s at × Own 0 (length s) (run s w .steps) at
   run-steps-own-bytes = run-owns s w
 
-  -- the code is one of document 01's table, and never 2 (`Codes`)
+  -- the code is one of those of the rules, and never 2 (`Codes`)
   pub run-code-is-listed : known run-codes (run s w .code) ≡ true
   run-code-is-listed = run-coded s w
 
@@ -256,7 +256,7 @@ module _ (ak af : ℕ) (s : List ℕ) (k f start extent : ℕ) where
   pub fields-accepted-exactly : (read ak af s k f start extent .code ≡ 0) ↔ ((vs : List Value) × (bytes items : ℕ) × Fields-read ak af s k f start extent vs bytes items)
   fields-accepted-exactly = fields-accepted ak af s k f start extent
 
-  -- the code is one of document 01's table, and never 8 or 9
+  -- the code is one of those of the rules, and never 8 or 9
   pub fields-code-is-listed : known field-codes (read ak af s k f start extent .code) ≡ true
   fields-code-is-listed = fields-coded ak af s k f start extent
 
@@ -334,7 +334,7 @@ module _ {x : List ℕ} {n : ℕ} (l : Longest x n) where
   pub ill-formed-there : (u v : List ℕ) → drop n x ≡ u ++ v → UTF8-char u → ⊥
   ill-formed-there = no-char-there l
 
--- ==== the impostors (`Impostors`): each falls to the demand that document 01 names for it
+-- ==== the impostors (`Impostors`): each falls to the demand that the rules name for it (docs/RULES.md, R14.4)
 module _ (f : Call) where
   -- "exactly when" shuts out a decoder that refuses all, and one that answers P2 always
   pub not-refuses-all : Accepts-exactly a-datagram f → ((s w : List ℕ) → f s w .code ≡ 0 → ⊥) → ⊥

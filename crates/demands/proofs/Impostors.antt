@@ -1,4 +1,4 @@
--- The impostors of document 01: each falls to the demand that is named for it, at an input that is written out and whose reading is computed; and three of
+-- The impostors (docs/RULES.md, R14.4): each falls to the demand that is named for it, at an input that is written out, its reading computed; and three of
 -- them meet the others. Assumes nothing.
 use Prim.Native.Nat.{ℕ, _*_, _/_, _%_, _≤_, _<_}
 use mathlib.Core.Path.{_≡_, refl, sym, ap, _∙_}
@@ -23,7 +23,7 @@ abbrev pub bytes-of : List ℕ → List ℕ
 bytes-of [] = []
 bytes-of (v ∷ rest) = v / 16777216 ∷ v / 65536 % 256 ∷ v / 256 % 256 ∷ v % 256 ∷ bytes-of rest
 
--- P2 of document 01: a datagram of no sample
+-- P2 (docs/RULES.md, 13): a datagram of no sample
 abbrev pub p2 : List ℕ
 p2 = bytes-of (5 ∷ 0 ∷ 0 ∷ 1 ∷ 0 ∷ 0 ∷ [])
 

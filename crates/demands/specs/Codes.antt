@@ -1,4 +1,4 @@
--- The codes of document 01's table, by the call that may answer them. Definitions only. Assumes nothing.
+-- The codes of the rules (docs/RULES.md, 5), by the call that may answer them. Definitions only. Assumes nothing.
 use Prim.Native.Nat.{ℕ}
 use mathlib.Core.List.{List, [], _∷_}
 

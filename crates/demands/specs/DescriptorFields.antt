@@ -24,7 +24,7 @@ range w i = record {
   first = getD w (descriptor-words * i + 6) 0;
 }
 
--- document 01's formats: of the samples that are opened, and of the flow records
+-- the formats of the rules (docs/RULES.md, 3): of the samples that are opened, and of the flow records
 abbrev pub sample-formats : List ℕ
 sample-formats = 1 ∷ 2 ∷ 3 ∷ 4 ∷ 5 ∷ []
 

@@ -1,4 +1,4 @@
-// What a flow record's payload holds: document 01's table, row by row. An aggregation is not read here, since it holds records again.
+// What a flow record's payload holds: the table of docs/RULES.md, R3.8, row by row. An aggregation is not read here, since it holds records again.
 ghost use mathlib.Core.Path.{_≡_};
 ghost use Rattle.reading.specs.Script.{give, nothing};
 ghost use Rattle.reading.specs.Cursor.{follow};

@@ -1,4 +1,4 @@
-// The lines of document 01's listing.
+// The lines of the listing (docs/RULES.md, 12).
 ghost use Prim.Native.Nat.{_+_, _*_, _≤_};
 ghost use mathlib.Core.Path.{_≡_};
 ghost use lib.ListN.{length};

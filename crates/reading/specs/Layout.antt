@@ -1,4 +1,4 @@
--- Document 01's layouts, as scripts: its two tables row by row, and the frames around them. Assumes nothing.
+-- The layouts (docs/RULES.md, 3), as scripts: the two tables row by row, and the frames around them. Assumes nothing.
 use Prim.Native.Nat.{ℕ, zero, suc, _+_, _-_}
 use mathlib.Core.Bool.{cond}
 use mathlib.Core.List.{List, [], _∷_, _++_}
@@ -130,7 +130,7 @@ framed k d body = here (λ o. item word (λ f. within (body (num f)) (λ x a. gi
 abbrev pub pdu : (depth : ℕ) → Script → Script
 pdu d body = here (λ o. item word (λ n. here (λ a. repeat (num n) body (λ r. here (λ e. give (only (ranged 4 0 d o (between a e) (r .ranges))))))))
 
--- ---- document 01's tables
+-- ---- the two tables (docs/RULES.md, R3.3 and R3.8)
 
 -- the flow records that are opened; `inner` is a PDU of this record
 unfoldable pub flows : (inner : Script) → List Row

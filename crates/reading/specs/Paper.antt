@@ -1,4 +1,4 @@
--- Document 01's sessions on paper, as one tabulated fact. Assumes nothing.
+-- The sessions on paper (docs/RULES.md, 13), as one tabulated fact. Assumes nothing.
 use Prim.Native.Nat.{ℕ, zero, suc, _+_, _*_, _-_, _/_, _%_}
 use mathlib.Core.Path.{_≡_, refl}
 use mathlib.Core.List.{List, [], _∷_, _++_, map}

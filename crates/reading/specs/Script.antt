@@ -1,4 +1,4 @@
--- A script: what is to be read, item by item. Document 01's layouts are written as scripts, once; `Cursor.antt` says what a decoder
+-- A script: what is to be read, item by item. The layouts are written as scripts, once; `Cursor.antt` says what a decoder
 -- answers to one, and `Grammar.antt` which bytes are one. Assumes nothing.
 use Prim.Native.Nat.{ℕ}
 use mathlib.Core.Bool.{Bool}
@@ -60,7 +60,7 @@ octet-count six = 6
 octet-count eight = 8
 octet-count sixteen = 16
 
--- an item of RFC 4506, as document 01 counts them: a word (u32), one that has to pass a test or is refused by a code, a u64, an i32,
+-- an item of RFC 4506, as the rules count them (docs/RULES.md, 2): a word (u32), one that has to pass a test or is refused by a code, a u64, an i32,
 -- a fixed block, an opaque, and an opaque that is UTF-8
 pub data Item : Type 0 where
   word : Item

@@ -21,7 +21,7 @@ pub struct Cursor {
     pub steps: usize,
 }
 
-// How a reading ends: document 01's code, the position, and the items read. Code 0 is no refusal.
+// How a reading ends: its code (docs/RULES.md, 5), the position, and the items read. Code 0 is no refusal.
 #[repr(C)]
 pub struct Outcome {
     pub code: u32,

@@ -1,4 +1,4 @@
-//! One input: the library's answers against the crate's and against document 01's reading.
+//! One input: the library's answers against the crate's and against the reading by the rules (docs/RULES.md).
 
 use crate::fault::Library;
 use crate::paper::{self, Cursor, Opened, Reading};
@@ -28,7 +28,7 @@ pub fn theirs(data: &[u8], run: bool) -> Theirs {
     }
 }
 
-/// Document 01's.
+/// The reading by the rules.
 pub fn reading_of(data: &[u8], run: bool) -> Reading {
     if run {
         paper::decode_run(data)
@@ -118,7 +118,7 @@ impl Judge {
         Ok(Ours { answer: (answer.code, answer.at, answer.steps, answer.needed), header, store })
     }
 
-    /// The library against document 01's reading, with room, without, and field by field.
+    /// The library against the reading by the rules, with room, without, and field by field.
     fn answers(&mut self, data: &[u8], reading: &Reading, run: bool) -> Checked {
         let of = if run { "run" } else { "decode" };
         let needed = reading.store.len();
@@ -194,7 +194,7 @@ impl Judge {
         same("whole: its end", &(whole.start + whole.count), &cursor.at)
     }
 
-    /// One field reading against document 01's; answers its code and position.
+    /// One field reading against that by the rules; answers its code and position.
     fn reading(&self, data: &[u8], descriptor: &Descriptor, row: usize) -> Result<(u32, usize), Difference> {
         let layout = &LAYOUTS[row];
         let name = format_args!("fields of {}/{}", layout.kind, layout.format).to_string();
@@ -266,7 +266,7 @@ impl Judge {
     /// The library against the crate, as far as the input lies in the domain; what lies outside is counted, and brought inside.
     fn against(&mut self, data: &[u8], reading: &Reading, crates: &Theirs, run: bool) -> Checked {
         let code = crates.as_ref().map_or_else(|refused| refused.code, |_| 0);
-        same("the crate's refusal has no code in document 01", &(code == u32::MAX), &false)?;
+        same("the crate's refusal has no code in the rules", &(code == u32::MAX), &false)?;
         if reading.code == 1 {
             self.tally.reach(Key::Long(code));
             return Ok(());
@@ -284,7 +284,7 @@ impl Judge {
         self.tally.reach(Key::OpenedAnswer(reading.code, code));
         match (reading.code, code) {
             (0, 0) => self.equal(data, reading, crates, false)?,
-            // What the crate opens it may refuse; it reads on where document 01 does, so it accepts nothing more.
+            // What the crate opens it may refuse; it reads on where the rules do, so it accepts nothing more.
             (_, 0) => same("outside: code", &reading.code, &code)?,
             _ => {}
         }
@@ -406,7 +406,7 @@ pub fn show(data: &[u8], fault: u32) {
     let (one, run) = (library.decode(data, &mut store).answer, library.decode_run(data, &mut store));
     println!("library: {one:?}, as a run {run:?}");
     let answer = |of: Reading| format!("code {} at {}, steps {}, descriptors {}", of.code, of.at, of.steps, of.store.len());
-    println!("document 01: {}; as a run {}", answer(paper::decode(data)), answer(paper::decode_run(data)));
+    println!("the rules: {}; as a run {}", answer(paper::decode(data)), answer(paper::decode_run(data)));
     println!("crate: {:?}; as a run {:?}", parse_datagram(data), parse_datagrams(data).map(|all| all.len()));
 }
 
@@ -434,7 +434,7 @@ pub fn is_named(word: u32, listed: bool, own: u32, catch_all: u32) -> bool {
     own == if listed { word } else { catch_all }
 }
 
-/// The header of an answer: document 01's, or all zero. The version is not among its fields.
+/// The header of an answer: the one by the rules, or all zero. The version is not among its fields.
 fn header_is(ours: &[Value], expected: &[Value]) -> Checked {
     match expected {
         [] => same("decode: header on a refusal", &ours.iter().all(Value::is_zero), &true),

@@ -1,4 +1,4 @@
-//! Random trees by document 01's layouts. With `trouble` above 0, places go wrong: so many in a thousand.
+//! Random trees by the layouts of docs/RULES.md. With `trouble` above 0, places go wrong: so many in a thousand.
 
 use crate::random::Random;
 use crate::shape::*;

@@ -1,4 +1,4 @@
-//! The differences outside the domain that docs/DIFFERENCES.md lists: each input with what document 01 and the crate give, as a datagram
+//! The differences outside the domain that docs/DIFFERENCES.md lists: each input with what the rules and the crate give, as a datagram
 //! and as a run. That each of them is a row of that document, with the same answers, is checked by tests/differences/run.
 
 use crate::compare::{reading_of, theirs};
@@ -10,10 +10,10 @@ use crate::tree::*;
 struct Row {
     what: &'static str,
     input: Vec<u8>,
-    /// Document 01's code and position, and the crate's code.
+    /// The code and position by the rules, and the crate's code.
     ours: (u32, usize),
     crates: u32,
-    /// As a run: document 01's code and position, and the crate's code with how many datagrams it gives.
+    /// As a run: the code and position by the rules, and the crate's code with how many datagrams it gives.
     ours_run: (u32, usize),
     crates_run: (u32, usize),
 }
@@ -71,7 +71,7 @@ fn kept_raw(what: &'static str, input: Vec<u8>, crates: u32) -> Row {
     Row { what, input, ours: (0, end), crates, ours_run: (0, end), crates_run }
 }
 
-/// An input that document 01 refuses with `ours`, as a run too.
+/// An input that the rules refuse with `ours`, as a run too.
 fn refused(what: &'static str, input: Vec<u8>, ours: (u32, usize), crates: u32, crates_run: (u32, usize)) -> Row {
     Row { what, input, ours, crates, ours_run: ours, crates_run }
 }
@@ -126,8 +126,8 @@ fn check_row(row: &Row, library: &Library) -> Checked {
     same(&name("code and position"), &(ours.code, ours.at), &row.ours)?;
     same(&name("code and position as a run"), &(run.code, run.at), &row.ours_run)?;
     let [one, run] = [false, true].map(|run| reading_of(&row.input, run));
-    same(&name("document 01's code and position"), &(one.code, one.at), &row.ours)?;
-    same(&name("document 01's code and position as a run"), &(run.code, run.at), &row.ours_run)?;
+    same(&name("the rules' code and position"), &(one.code, one.at), &row.ours)?;
+    same(&name("the rules' code and position as a run"), &(run.code, run.at), &row.ours_run)?;
     let crates = theirs(&row.input, false).map_or_else(|refused| refused.code, |_| 0);
     same(&name("the crate's code"), &crates, &row.crates)?;
     let crates = theirs(&row.input, true).map_or_else(|refused| (refused.code, 0), |all| (0, all.len()));
@@ -141,7 +141,7 @@ fn rows() -> impl Iterator<Item = Row> {
 /// How many bytes of an input are shown: those of all but the longest are there, and these are told apart by them.
 const SHOWN: usize = 512;
 
-/// A line for each: its length, its first bytes, document 01's code and position, the crate's code, and the same four as a run.
+/// A line for each: its length, its first bytes, the rules' code and position, the crate's code, and the same four as a run.
 pub fn show() {
     for row in rows() {
         let first: String = row.input.iter().take(SHOWN).map(|byte| format!("{byte:02x}")).collect();

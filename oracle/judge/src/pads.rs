@@ -1,5 +1,5 @@
-//! Document 02's §11, bytes that must not matter: an accepted input, read as one datagram, with other bytes in its pads, and with other
-//! bytes behind the datagram, more of them or fewer, is answered as it was. Which bytes are pads is told by document 01's reading
+//! Request §11, bytes that must not matter (docs/RULES.md, R2.4): an accepted input, read as one datagram, with other bytes in its pads, and with other
+//! bytes behind the datagram, more of them or fewer, is answered as it was. Which bytes are pads is told by the reading by the rules
 //! (`paper`); the library has no part in that.
 
 use crate::compare::{lent, theirs};
@@ -23,7 +23,7 @@ const NEXT_CASE: u64 = 1 << 32;
 /// From so many inputs on, pads of every sort must have been there, and half of the changes to other bytes must have been noticed.
 const ENOUGH: u64 = 20_000;
 
-/// The input of this number: the first that document 01 accepts of the cases that are tried for it.
+/// The input of this number: the first that the rules accept of the cases that are tried for it.
 fn accepted(seed: u64, number: u64) -> (Vec<u8>, Reading) {
     let mut case = number;
     loop {
@@ -138,7 +138,7 @@ impl Pads {
         }
     }
 
-    /// The input as it is: the library answers what document 01 says, and the crate accepts what it does not open by itself.
+    /// The input as it is: the library answers what the rules say, and the crate accepts what it does not open by itself.
     fn base<'a>(&self, data: &'a [u8], reading: &'a Reading, spare: usize) -> Result<Base<'a>, Difference> {
         let needed = reading.store.len();
         let ours = self.asked(data, needed * DESCRIPTOR_WORDS + spare);
@@ -199,8 +199,8 @@ impl Pads {
         same("store", &ours.store, &base.ours.store)?;
         self.compare_fields(base, changed)?;
         let (before, after) = (base.reading, paper::decode(changed));
-        same("document 01's answer", &(after.code, after.at, after.steps), &(before.code, before.at, before.steps))?;
-        same("document 01's descriptors and pads", &(&after.store, &after.pads), &(&before.store, &before.pads))?;
+        same("the rules' answer", &(after.code, after.at, after.steps), &(before.code, before.at, before.steps))?;
+        same("the rules' descriptors and pads", &(&after.store, &after.pads), &(&before.store, &before.pads))?;
         self.compare_crate(base, changed)
     }
 

@@ -1,4 +1,4 @@
-//! Document 01's reading, with the first bytes of document 02's §6 and the position of its §3 for code 7, item by item, written from
+//! The reading by the rules (docs/RULES.md), first bytes and the position of code 7 included, item by item, written from
 //! their text alone: what the crate cannot tell (positions, steps, starts, first bytes, depth 9) comes from here, and whether an input
 //! lies in the domain of equality. Where the crate can tell, both are compared with it: of a position, it tells that of code 7, counted
 //! from the string's first byte.
@@ -152,7 +152,7 @@ pub enum Place {
     PduCount,
 }
 
-/// A record that the crate opens and document 01 keeps raw.
+/// A record that the crate opens and the rules keep raw.
 #[derive(Clone, Copy)]
 pub struct Opened {
     pub kind: u32,
@@ -161,7 +161,7 @@ pub struct Opened {
     pub at: usize,
 }
 
-/// What document 01 says to an input.
+/// What the rules say to an input.
 pub struct Reading {
     pub code: u32,
     pub at: usize,

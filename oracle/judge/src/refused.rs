@@ -1,4 +1,4 @@
-//! What the crate tells of a refusal: document 01's code for it, and of a string that is not UTF-8 the index of its first ill-formed
+//! What the crate tells of a refusal: the rules' code for it, and of a string that is not UTF-8 the index of its first ill-formed
 //! sequence.
 
 use crate::paper::Reading;
@@ -11,7 +11,7 @@ const NOT_UTF8: &str = "Invalid UTF-8 string";
 /// A refusal of the crate.
 #[derive(Debug)]
 pub struct Refused {
-    /// u32::MAX where document 01 has no code for it.
+    /// u32::MAX where the rules have no code for it.
     pub code: u32,
     /// On code 7: where the first ill-formed sequence begins, counted from the string's first byte.
     index: Option<usize>,
@@ -27,14 +27,14 @@ impl Refused {
         Refused { code: u32::MAX, index: None }
     }
 
-    /// Whether a position of code 7 is where the crate's index says. Where the string begins is document 01's.
+    /// Whether a position of code 7 is where the crate's index says. Where the string begins is told by the rules.
     pub fn same_place(&self, kind: &str, at: usize, reading: &Reading) -> Checked {
         let index = self.index.map(|index| index as isize);
         same(&format!("{kind}: index in the string"), &Some(at as isize - reading.text as isize), &index)
     }
 }
 
-/// Document 01's code for a refusal of the crate.
+/// The rules' code for a refusal of the crate.
 fn code_of(error: &ParseError) -> u32 {
     const TEXTS: [(&str, u32); 5] =
         [("Invalid version", 3), ("Invalid address type", 4), ("Opaque data length", 5), ("Unknown header protocol", 6), (NOT_UTF8, 7)];

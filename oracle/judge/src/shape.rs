@@ -1,4 +1,4 @@
-//! Document 01's layouts as one table, a descriptor's words, and which records the crate opens that document 01 keeps raw.
+//! The layouts of docs/RULES.md as one table, a descriptor's words, and which records the crate opens that the rules keep raw.
 
 /// An item of a layout.
 #[derive(Clone, Copy, PartialEq, Debug)]
@@ -40,7 +40,7 @@ pub const PDU: u32 = 4;
 pub const AGGREGATION: u32 = 1016;
 pub const NOBODY: u32 = u32::MAX;
 
-// Document 01's sizes, as this judge has them: written by hand on purpose, and not taken from the header, which `library::c_checks` holds
+// The rules' sizes, as this judge has them: written by hand on purpose, and not taken from the header, which `library::c_checks` holds
 // to them.
 pub const MAX_INPUT: usize = 16_777_216;
 pub const MAX_OPAQUE: usize = 104_857_600;
@@ -90,7 +90,7 @@ pub fn row_of(kind: u32, format: u32) -> Option<usize> {
     LAYOUTS.iter().position(|row| row.kind == kind && row.format == format)
 }
 
-/// Whether the crate opens a record of this kind and format that document 01 keeps raw.
+/// Whether the crate opens a record of this kind and format that the rules keep raw.
 pub fn only_the_crate_opens(kind: u32, format: u32) -> bool {
     let (enterprise, number) = (format >> 12, format & 0xfff);
     match (kind, enterprise) {

@@ -1,6 +1,6 @@
 //! Inputs with their answers, for a program that replays them where no Rust is at hand: crates/replay. What the crate tells (acceptance,
 //! the kind of refusal, where in a string it stops being UTF-8, the header, each descriptor's kind, format, parent and depth, its fields, the
-//! payload of what is kept raw) is the crate's; other positions, steps, ranges, first bytes and depth 9 are document 01's reading. The
+//! payload of what is kept raw) is the crate's; other positions, steps, ranges, first bytes and depth 9 are read by the rules. The
 //! library has no part in them.
 
 use crate::compare::{brought_inside, holds_alone, is_named, reading_of, theirs, Judge};
@@ -48,23 +48,23 @@ fn agrees(data: &[u8], reading: &Reading, datagrams: &[SFlowDatagram]) -> Checke
     let nodes = structure::nodes(datagrams);
     let ours: Vec<_> = reading.store.iter().map(|&[kind, format, _, _, parent, depth, _]| (kind, format, parent, depth)).collect();
     let crates: Vec<_> = nodes.iter().map(|node| (node.kind, node.format, node.parent, node.depth)).collect();
-    same("document 01 and the crate: descriptors", &ours, &crates)?;
+    same("the rules and the crate: descriptors", &ours, &crates)?;
     for (descriptor, node) in reading.store.iter().zip(&nodes) {
         let (start, length) = (descriptor[2] as usize, descriptor[3] as usize);
         if let Some(raw) = node.raw {
-            same("document 01 and the crate: payload", &&data[start..start + length], &raw)?;
+            same("the rules and the crate: payload", &&data[start..start + length], &raw)?;
         }
         fields_agree(data, descriptor, node)?;
     }
     Ok(())
 }
 
-/// Whether the crate's fields are those that document 01 reads.
+/// Whether the crate's fields are those that are read by the rules.
 fn fields_agree(data: &[u8], descriptor: &Descriptor, node: &Node) -> Checked {
     let Some(layout) = layout_of(node.kind, node.format) else {
         return Ok(());
     };
-    let name = format!("document 01 and the crate: fields of {}/{}", node.kind, node.format);
+    let name = format!("the rules and the crate: fields of {}/{}", node.kind, node.format);
     let ((code, ..), values) = paper::fields(data, descriptor, layout);
     same(&name, &(code, values.len()), &(0, node.held.len()))?;
     for (index, (value, held)) in values.iter().zip(&node.held).enumerate() {
@@ -96,7 +96,7 @@ fn is_path(data: &[u8], start: usize, count: usize, own: &[AsPathSegment]) -> bo
     count == own.len()
 }
 
-/// Document 01's answer, once the crate has been asked. Only depth 9 is document 01's alone.
+/// The rules' answer, once the crate has been asked. Only depth 9 is the rules' alone.
 fn agreed(data: &[u8], run: bool) -> Result<Answer, Difference> {
     let reading = reading_of(data, run);
     if reading.code == 8 {
@@ -105,15 +105,15 @@ fn agreed(data: &[u8], run: bool) -> Result<Answer, Difference> {
     let (inside, again) = brought_inside(data, &reading, run)?;
     match theirs(&inside, run) {
         Ok(datagrams) => {
-            same("document 01 and the crate: code", &reading.code, &0)?;
+            same("the rules and the crate: code", &reading.code, &0)?;
             agrees(&inside, &again, &datagrams)?;
             let header = if run { Vec::new() } else { header(&datagrams[0]) };
             Ok(Answer { reading, header })
         }
         Err(refused) => {
-            same("document 01 and the crate: code", &reading.code, &refused.code)?;
+            same("the rules and the crate: code", &reading.code, &refused.code)?;
             if reading.code == 7 {
-                refused.same_place("document 01 and the crate", reading.at, &reading)?;
+                refused.same_place("the rules and the crate", reading.at, &reading)?;
             }
             Ok(Answer { reading, header: Vec::new() })
         }

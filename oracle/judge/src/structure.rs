@@ -30,7 +30,7 @@ pub struct Node<'a> {
     /// The payload, of what the crate keeps raw.
     pub raw: Option<&'a [u8]>,
     pub held: Vec<Held<'a>>,
-    /// The crate opened it and document 01 does not.
+    /// The crate opened it and the rules keep it raw.
     pub opened: bool,
 }
 

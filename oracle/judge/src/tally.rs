@@ -19,7 +19,7 @@ pub enum Key {
     Refusal(u32, Place),
     /// One of `SEEN`, in an accepted datagram.
     Seen(&'static str),
-    /// Outside the domain: a record that only the crate opens; the answers of document 01 and of the crate; the crate's answer
+    /// Outside the domain: a record that only the crate opens; the answers of the rules and of the crate; the crate's answer
     /// where a record would begin at depth 9, and where the input is too long.
     Opened(u32, u32),
     OpenedAnswer(u32, u32),
