@@ -2,6 +2,8 @@
 import math
 from xml.sax.saxutils import escape
 
+import library
+
 FONT = "font-family='DejaVu Sans, Verdana, sans-serif'"
 
 
@@ -29,8 +31,7 @@ class Picture:
         head = (f"<svg xmlns='http://www.w3.org/2000/svg' width='{self.width}' height='{self.height}' "
                 f"viewBox='0 0 {self.width} {self.height}' {FONT} role='img'>\n<title>{escape(self.title)}</title>\n"
                 f"<rect width='100%' height='100%' fill='#fff'/>\n")
-        with open(path, "w", encoding="utf-8") as f:
-            f.write(head + "\n".join(self.parts) + "\n</svg>\n")
+        library.replace(path, (head + "\n".join(self.parts) + "\n</svg>\n").encode())
 
 
 class LogScale:

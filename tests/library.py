@@ -2,6 +2,7 @@
 import os
 import re
 import subprocess
+import sys
 
 ROOT = os.path.dirname(os.path.dirname(os.path.abspath(__file__)))
 HEADER = os.path.join(ROOT, "include", "latchplume.h")
@@ -14,6 +15,20 @@ DESCRIPTOR_WORDS, MAX_INPUT, MAX_OPAQUE, MAX_DEPTH, NOBODY = (
 
 class Failed(Exception):
     """Something is missing, or could not be built."""
+
+
+def tell(args, doc):
+    """Where a script is asked for --help it prints what it says of itself, and ends."""
+    if args in (["--help"], ["-h"]):
+        print(doc)
+        sys.exit(0)
+
+
+def replace(path, data):
+    """Writes a file anew; until that is done the old one stays."""
+    with open(path + ".new", "wb") as f:
+        f.write(data)
+    os.replace(path + ".new", path)
 
 
 def archive(*more):

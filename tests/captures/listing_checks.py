@@ -3,6 +3,7 @@ import glob
 import os
 
 import figures
+import library
 import model
 
 
@@ -37,8 +38,7 @@ def write(captures):
         if not text.startswith("code="):
             raise figures.building.Failed(f"{one.name}: the listing program gives no listing: {text}")
     for one, text in zip(captures, texts):
-        with open(one.listing_path(), "w") as f:
-            f.write(text)
+        library.replace(one.listing_path(), text.encode())
 
 
 def read_fields(captures):

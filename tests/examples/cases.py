@@ -181,7 +181,7 @@ class Datagram:
         self.store = [(0, 0, 0, len(self.data), NOBODY, 0, 0), *rows(len(self.head.data))]
 
     def descriptors(self):
-        return antt_list(['desc %d %d %d %d %d %d %d' % row for row in self.store])
+        return antt_list([' '.join(['desc', *map(str, row)]) for row in self.store])
 
 
 def whole_datagrams():

@@ -14,6 +14,10 @@ import os
 import struct
 import sys
 
+sys.dont_write_bytecode = True
+sys.path.append(os.path.dirname(os.path.dirname(os.path.abspath(__file__))))
+from library import replace, tell
+
 # the rules', as this judge has it: written by hand on purpose, and not taken from the header
 MAX_OPAQUE = 104857600
 
@@ -307,15 +311,16 @@ def main(args):
         for name, item, data, start, count in vectors():
             print('%s: %s' % (name, line(item, data, start, count)))
         return
+    tell(args, __doc__)
     if args not in ([], ['--check']):
-        sys.exit(__doc__)
+        print('vectors.py: usage: tests/probe/vectors.py [--check | --list]', file=sys.stderr)
+        sys.exit(2)
     if not os.path.isdir(folder):
         sys.exit('vectors.py: no folder crates/probe beside tests/')
     for file, text in made().items():
         path = os.path.join(folder, file)
         if not args:
-            with open(path, 'wb') as f:
-                f.write(text)
+            replace(path, text)
         elif not os.path.exists(path):
             sys.exit('vectors.py: crates/probe/%s is missing: run tests/probe/vectors.py' % file)
         elif open(path, 'rb').read() != text:
