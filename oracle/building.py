@@ -44,10 +44,14 @@ def need(tool, package):
         raise Failed(f"'{tool}' is missing: install {package}")
 
 
-def made_by_cargo(words, source, made, library):
-    """Runs cargo on the sources in a folder; answers the folder with what was made."""
+def need_tools():
     need("cargo", "Rust's toolchain")
     need("cc", "Debian's package gcc")
+
+
+def made_by_cargo(words, source, made, library):
+    """Runs cargo on the sources in a folder; answers the folder with what was made."""
+    need_tools()
     env = {**os.environ, "CARGO_TARGET_DIR": made, "LATCHPLUME_ARCHIVE": library}
     output(["cargo", *words, "--release", "--offline", "--quiet"], "cargo " + words[0], cwd=source, env=env)
     return os.path.join(made, "release")
@@ -66,7 +70,8 @@ def check_declarations(judge, include=os.path.join(ROOT, "include")):
 
 
 def judge():
-    """The program, built from what is there."""
+    """The program, built from what is there; what is missing is told before the library is proved."""
+    need_tools()
     check_crate()
     program = cargo(HERE, MADE, archive())
     check_declarations(program)
