@@ -1,12 +1,12 @@
 // What was sampled: the packet's first bytes, or the fields of its header.
 ghost use mathlib.Core.Path.{_≡_};
-ghost use mathlib.Core.List.{[], _∷_, _++_};
-ghost use Rattle.reading.specs.Script.{number, sixteen};
-ghost use Rattle.reading.specs.Layout.{bytes, protocol, words};
+ghost use mathlib.Core.List.{_∷_, _++_};
+ghost use Rattle.reading.specs.Script.{sixteen};
+ghost use Rattle.reading.specs.Layout.{bytes, words};
 ghost use Rattle.reading.specs.Values.{zeros};
 ghost use Rattle.reading.specs.Answer.{layout-of};
-ghost use Rattle.xdr.specs.Shown.{Inside, Answers, refused};
-ghost use Rattle.layout.specs.Chain.{Within, Then};
+ghost use Rattle.xdr.specs.Shown.{Answers};
+ghost use Rattle.layout.specs.Chain.{Within};
 ghost use Rattle.flow_layouts.specs.Shown.{sampled-header, sampled-ethernet, sampled-ipv4, sampled-ipv6};
 use layout::field;
 use xdr::Outcome;
