@@ -16,6 +16,7 @@ ghost use Rattle.datagram.specs.Shown.{root};
 use crate::header;
 use layout::field::WordsAt;
 use layout::frames::Scanned;
+use load;
 use numbers::DataFormat;
 use samples::put::put_samples;
 use samples::scan;
@@ -26,7 +27,6 @@ use store::Written;
 use store::put;
 use xdr::Cursor;
 use xdr::Passed;
-use xdr::load;
 
 // The samples behind a header, where that was passed, on top of `count` descriptors and the datagram's own; its last word counts them.
 fn samples_behind(s: &[u8], row: WordsAt, count: usize) -> Scanned

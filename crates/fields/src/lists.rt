@@ -6,11 +6,11 @@ ghost use Rattle.layout.specs.Shown.{a-segment};
 ghost use Rattle.fields.specs.Shown.{listed, Begins};
 use crate::ask::unread;
 use layout::lists::Segment;
+use load;
 use xdr::Cursor;
 use xdr::MAX_INPUT_SIZE;
 use xdr::Passed;
 use xdr::Span;
-use xdr::load;
 
 // A word of a list, if there is one.
 #[repr(C)]

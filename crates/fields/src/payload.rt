@@ -2,10 +2,10 @@
 ghost use mathlib.Core.Path.{_≡_};
 ghost use Rattle.reading.specs.Answer.{payload-span, whole-span, payload};
 ghost use Rattle.xdr.specs.Shown.{span};
+use load;
 use store::Descriptor;
 use xdr::MAX_INPUT_SIZE;
 use xdr::Span;
-use xdr::load;
 
 // Where a descriptor's payload lies. It is empty where a field reading would refuse the range.
 pub fn payload_span(s: &[u8], d: Descriptor) -> Span

@@ -11,6 +11,7 @@ ghost use Rattle.store.specs.Written.{Ready, held-by, written, placed, filled, 
 ghost use Rattle.flows.specs.Passing.{Flat-of};
 use crate::MAX_DEPTH;
 use crate::TOO_DEEP;
+use load;
 use numbers::DataFormat;
 use store::DESCRIPTOR_WORDS;
 use store::Descriptor;
@@ -19,7 +20,6 @@ use store::Written;
 use store::index_at;
 use store::put;
 use store::put_frame;
-use xdr::load;
 
 // Where flat records end: the next byte, the word where the next descriptor begins, and the records that are left.
 pub struct Flat {

@@ -9,9 +9,9 @@ ghost use Rattle.flows.specs.Passing.{Passes, Passes-record, Ahead-of};
 ghost use Rattle.xdr.specs.Shown.{Inside};
 use layout::frames::Frame;
 use layout::pass::Row;
+use load;
 use xdr::Cursor;
 use xdr::Passed;
-use xdr::load;
 
 // Where it has come to: the records that are left, and the descriptors so far.
 pub struct Ahead {

@@ -11,6 +11,7 @@ ghost use Rattle.xdr.specs.Shown.{Inside, Reads, refused, span, width, an-addre
 ghost use Rattle.layout.specs.Chain.{Within, Then, There, Has-words, loaded, word-of, field-of, range-of};
 use crate::lists;
 use crate::lists::Ranged;
+use load;
 use xdr::Address;
 use xdr::Addressed;
 use xdr::Block;
@@ -21,7 +22,6 @@ use xdr::Passed;
 use xdr::Span;
 use xdr::Width;
 use xdr::Word;
-use xdr::load;
 
 pub struct Number {
     pub passed: Passed,

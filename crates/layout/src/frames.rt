@@ -6,13 +6,13 @@ ghost use Rattle.reading.specs.Sizes.{longest-input};
 ghost use Rattle.reading.proofs.Counts.{frame-at};
 ghost use Rattle.xdr.specs.Shown.{Inside, place};
 ghost use Rattle.layout.specs.Scanned.{frame-out};
+use load;
 use xdr::Cursor;
 use xdr::MAX_OPAQUE_SIZE;
 use xdr::Outcome;
 use xdr::Part;
 use xdr::Span;
 use xdr::Word;
-use xdr::load;
 
 // The format, where the payload lies, and the cursor behind the pad.
 pub enum Frame {

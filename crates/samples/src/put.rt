@@ -13,11 +13,11 @@ use crate::heads::kind_of;
 use flows::MAX_DEPTH;
 use flows::put::put_flat_records;
 use flows::put::put_pdus;
+use load;
 use store::Pen;
 use store::Written;
 use store::index_at;
 use store::put_frame;
-use xdr::load;
 
 // The levels that are left below a sample's own records.
 const LEVELS_BELOW: usize = MAX_DEPTH - 1;

@@ -19,9 +19,9 @@ use layout::field;
 use layout::field::WordsAt;
 use layout::frames::Frame;
 use layout::frames::Scanned;
+use load;
 use xdr::Cursor;
 use xdr::Passed;
-use xdr::load;
 
 // One counter record, kept raw.
 fn counter_record(s: &[u8], c: Cursor, count: usize) -> Scanned

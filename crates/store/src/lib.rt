@@ -6,8 +6,8 @@ ghost use Rattle.reading.specs.Answer.{row-of};
 ghost use Rattle.reading.specs.Sizes.{descriptor-words};
 ghost use Rattle.reading.proofs.Stored.{write};
 ghost use Rattle.store.specs.Written.{range-of, Framed-here, written, framed-at};
+use load;
 use numbers::DataFormat;
-use xdr::load;
 
 // Where descriptors go: the index of this part's first, the parent's index, and the word of this part where the next one begins.
 pub struct Pen {

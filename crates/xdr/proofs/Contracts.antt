@@ -8,10 +8,9 @@ use lib.ListN.{take, drop, replicate}
 use denote.Ref.{now}
 use Rattle.reading.specs.Script.{octet-count, octets, word, long, int, opaque, string, nothing}
 use Rattle.reading.specs.Cursor.{fixed, read-item, times, follow}
-use Rattle.reading.specs.Bytes.{be4, be8, signed, padded}
 use Rattle.reading.specs.Layout.{addr, any-word, bytes}
 use Rattle.reading.specs.Values.{reading}
-use Rattle.xdr.specs.Shown.{accepted, an-address, behind, ill-formed, int-out, long-out, octets-at, part-out, passed-of, passed-out, place, refused, shown, width, word-out}
+use Rattle.xdr.specs.Shown.{accepted, an-address, behind, ill-formed, int-out, long-out, part-out, passed-of, passed-out, place, refused, shown, width, word-out}
 use Rattle.xdr.proofs.Settles.{Settles, settled, settled-by}
 use Rattle.xdr.proofs.Lossless.{word-lossless, long-lossless, int-lossless, part-lossless, passed-lossless, address-lossless, block-shown, block-lossless}
 use Rattle.xdr.proofs as call
@@ -64,35 +63,10 @@ module _ (κs self : _) where
 pub passed-settled : (κs self r e : _) → call.Outcome.passed.Reads.Learnt κs (self, tt) r e → r ≡ passed-of self
 passed-settled κs self r e h = h
 
--- ---- numbers and blocks that are known to be there
+-- ---- blocks that are known to be there
 
 pub octets-settled : (κs self r e : _) → call.Width.octets.Reads.Learnt κs (self, tt) r e → r ≡ octet-count (width self)
 octets-settled κs self r e h = h
 
-pub padded-settled : (κs count r e : _) → call.load.padded.Reads.Learnt κs (count, tt) r e → r ≡ padded count
-padded-settled κs count r e h = h
-
-pub int32-settled : (κs w r e : _) → call.load.int32.Reads.Learnt κs (w, tt) r e → r ≡ signed w
-int32-settled κs w r e h = h
-
-module _ (κs s at : _) where
-  pub load-settled : (self r e : _) → call.Width.load.Reads.Learnt κs (self, (s, (at, tt))) r e → r ≡ take (octet-count (width self)) (drop at (now s)) ++ replicate (16 - octet-count (width self)) 0
-  load-settled self r e h = h
-
-  pub be32-settled : (r e : _) → call.load.be32.Reads.Learnt κs (s, (at, tt)) r e → r ≡ be4 (now s) at
-  be32-settled r e h = h
-
-  pub be64-settled : (r e : _) → call.load.be64.Reads.Learnt κs (s, (at, tt)) r e → r ≡ be8 (now s) at
-  be64-settled r e h = h
-
-  pub block4-settled : (r e : _) → call.load.block4.Reads.Learnt κs (s, (at, tt)) r e → r ≡ octets-at 4 (now s) at (replicate 12 0)
-  block4-settled r e h = h
-
-  pub block6-settled : (r e : _) → call.load.block6.Reads.Learnt κs (s, (at, tt)) r e → r ≡ octets-at 6 (now s) at (replicate 10 0)
-  block6-settled r e h = h
-
-  pub block8-settled : (r e : _) → call.load.block8.Reads.Learnt κs (s, (at, tt)) r e → r ≡ octets-at 8 (now s) at (replicate 8 0)
-  block8-settled r e h = h
-
-  pub block16-settled : (r e : _) → call.load.block16.Reads.Learnt κs (s, (at, tt)) r e → r ≡ octets-at 16 (now s) at (replicate 0 0)
-  block16-settled r e h = h
+pub load-settled : (κs s at self r e : _) → call.Width.load.Reads.Learnt κs (self, (s, (at, tt))) r e → r ≡ take (octet-count (width self)) (drop at (now s)) ++ replicate (16 - octet-count (width self)) 0
+load-settled κs s at self r e h = h

@@ -7,7 +7,8 @@ use lib.ListN.{length, take, drop, getD, replicate}
 use lib.Seq.{drop-cons}
 use Rattle.reading.specs.Script.{octet-count}
 use Rattle.xdr.specs.declared.Width.{Width}
-use Rattle.xdr.specs.Shown.{width, window, octets-at}
+use Rattle.load.specs.Loaded.{window, octets-at}
+use Rattle.xdr.specs.Shown.{width}
 
 from : (n : ℕ) (s : List ℕ) (at k : ℕ) (rest : List ℕ) → at + k + n ≤ length s → window n s at k rest ≡ take n (drop (at + k) s) ++ rest
 from zero s at k rest h = refl

@@ -9,7 +9,7 @@ use crate::Block;
 use crate::Cursor;
 use crate::Passed;
 use crate::Width;
-use crate::load;
+use load;
 
 impl Width {
     pub fn octets(self) -> usize

@@ -5,7 +5,6 @@ ghost use Rattle.xdr.specs.Shown.{refused, ill-formed, accepted, behind,
 
 mod addresses;
 mod blocks;
-pub mod load;
 mod opaques;
 mod words;
 

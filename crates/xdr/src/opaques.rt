@@ -8,7 +8,7 @@ use crate::MAX_OPAQUE_SIZE;
 use crate::Part;
 use crate::Span;
 use crate::Word;
-use crate::load;
+use load;
 use strings;
 
 impl Cursor {

@@ -11,7 +11,7 @@ use crate::Long;
 use crate::Outcome;
 use crate::Passed;
 use crate::Word;
-use crate::load;
+use load;
 
 impl Cursor {
     pub fn read_u32(self, s: &[u8]) -> Word

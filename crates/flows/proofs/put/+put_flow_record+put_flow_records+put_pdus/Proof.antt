@@ -20,7 +20,7 @@ use Rattle.flows.proofs.put.+put_flow_record+put_flow_records+put_pdus.
 use Rattle.store.proofs.index_at.Reads as index-at-reads
 use Rattle.store.proofs.put.Reads as put-reads
 use Rattle.store.proofs.put_frame.Reads as put-frame-reads
-use Rattle.xdr.proofs.load.be32.Reads as be32-reads
+use Rattle.load.proofs.be32.Reads as be32-reads
 use Rattle.flows.proofs.put.+put_flow_record+put_flow_records+put_pdus.{statement}
 use Rattle.flows.proofs.put.+put_flow_record+put_flow_records+put_pdus.Tie.{close}
 

@@ -1,9 +1,9 @@
-// Numbers and blocks that are known to be there.
+// Numbers and blocks at a place of the bytes, where they are known to be there; and how far a pad goes.
 ghost use mathlib.Core.Path.{_≡_};
 ghost use Prim.Native.Nat.{_+_, _^_, _≤_, _<_};
 ghost use lib.ListN.{length, replicate};
 ghost use Rattle.reading.specs.Bytes.{be4, be8, signed, padded};
-ghost use Rattle.xdr.specs.Shown.{octets-at, turned};
+ghost use Rattle.load.specs.Loaded.{octets-at, turned};
 
 fn wide(b: u8) -> u32
     ensures { λ r. ⌜ (r ≡ b) × (r < 256) ⌝ }

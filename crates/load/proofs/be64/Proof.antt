@@ -1,7 +1,7 @@
 use borrow.Author.Needs.{needs}
 use Rattle.reading.specs.Bytes.{be8}
-use Rattle.xdr.proofs.load.be64.Statement.{statement}
-use Rattle.xdr.proofs.load.be64.Tie as tie
+use Rattle.load.proofs.be64.Statement.{statement}
+use Rattle.load.proofs.be64.Tie as tie
 
 pub be64-spec : {M : Type 1} → statement M
 unfolding be8

@@ -1,7 +1,7 @@
-use Rattle.xdr.proofs.Turned.{turned-be4}
+use Rattle.load.proofs.Orders.{turned-be4}
 use borrow.Author.Needs.{needs}
-use Rattle.xdr.proofs.load.le32.Statement.{statement}
-use Rattle.xdr.proofs.load.le32.Tie as tie
+use Rattle.load.proofs.le32.Statement.{statement}
+use Rattle.load.proofs.le32.Tie as tie
 
 pub le32-spec : {M : Type 1} → statement M
 le32-spec =

@@ -1,7 +1,7 @@
 use borrow.Author.Needs.{needs}
-use Rattle.xdr.proofs.Signed.{small, large-fits, large}
-use Rattle.xdr.proofs.load.int32.Statement.{statement}
-use Rattle.xdr.proofs.load.int32.Tie as tie
+use Rattle.load.proofs.Signed.{small, large-fits, large}
+use Rattle.load.proofs.int32.Statement.{statement}
+use Rattle.load.proofs.int32.Tie as tie
 
 pub int32-spec : {M : Type 1} → statement M
 int32-spec = tie.close (tie.spec

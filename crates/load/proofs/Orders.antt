@@ -5,7 +5,7 @@ use mathlib.Core.List.{List}
 use native.Mathlib.Omega.{arith}
 use lib.ListN.{getD}
 use Rattle.reading.specs.Bytes.{be4}
-use Rattle.xdr.specs.Shown.{turned}
+use Rattle.load.specs.Loaded.{turned}
 
 pub turned-join : (a b c d : ℕ) → a < 256 → b < 256 → c < 256 → turned (d * 16777216 + c * 65536 + b * 256 + a) ≡ a * 16777216 + b * 65536 + c * 256 + d
 unfolding turned

@@ -1,7 +1,7 @@
-use Rattle.xdr.specs.Shown.{turned}
+use Rattle.load.specs.Loaded.{turned}
 use borrow.Author.Needs.{needs}
-use Rattle.xdr.proofs.load.turned.Statement.{statement}
-use Rattle.xdr.proofs.load.turned.Tie as tie
+use Rattle.load.proofs.turned.Statement.{statement}
+use Rattle.load.proofs.turned.Tie as tie
 
 pub turned-spec : {M : Type 1} → statement M
 unfolding turned
