@@ -99,12 +99,8 @@ the-descriptor-holds = refl
 '''
 
 ASKED = '''
--- a descriptor that is handed in, by the names of its fields: its kind, format, start and length are what is asked
-pub a-descriptor : Descriptor
-a-descriptor = record { kind = 11; format = record { 0 = 12 }; start = 13; length = 14; parent = 15; depth = 16; first = 17 }
-
-pub the-descriptor-holds : (s : List ℕ) → read-of 1 2 s a-descriptor ≡ read 1 2 s 11 12 13 14
-unfolding a-descriptor
+-- a descriptor's words, as they are handed in: kind, format, start and length are what is asked
+pub the-descriptor-holds : (s : List ℕ) → read-at 1 2 s (11 ∷ 12 ∷ 13 ∷ 14 ∷ 15 ∷ 16 ∷ 17 ∷ []) ≡ read 1 2 s 11 12 13 14
 the-descriptor-holds s = refl
 '''
 
@@ -152,8 +148,7 @@ def fields_text():
     structs = [Struct('listed-%d' % i, 'Listed', 'lists', 'of-word (listed listed-%d)' % i, 'the word with index %d of a list of two' % i,
                       literal([('present', str(there).lower()), ('value', number(value))])) for i, there, value in LISTED]
     uses = '''use Rattle.reading.specs.Answer.{read}
-use Rattle.store.specs.declared.Descriptor.{Descriptor}
-use Rattle.fields.specs.Shown.{read-of, listed}
+use Rattle.fields.specs.Shown.{read-at, listed}
 '''
     text = crate_text('fields', 'a word of a list, and what is asked of a descriptor,', structs, ['list-words'], uses, ASKED)
     return text.replace('use mathlib.Core.Path', 'use Prim.Native.Nat.{ℕ}\nuse mathlib.Core.Path').replace(

@@ -19,53 +19,57 @@ use Rattle.xdr.specs.Shown.{answer-of, Answers}
 use Rattle.store.specs.declared.Descriptor.{Descriptor}
 use Rattle.layout.specs.Chain.{Within, inside, over}
 use Rattle.fields.specs.declared.ask.Asked.{Asked}
-use Rattle.fields.specs.Shown.{read-of, unread, not-asked, Asks}
+use Rattle.fields.specs.Shown.{Has-words, read-at, unread, not-asked, Asks}
+use Rattle.fields.proofs.Words.{by-words}
 
 pub nothing-asked : {code : ℕ} {p : Passed} → p ≡ unread code → record { passed = p; end = 0 } ≡ not-asked code
 nothing-asked e = rw e
 
-module _ (k f : ℕ) (s : List ℕ) (d : Descriptor) {r : Asked} where
-  refused-so : (code : ℕ) → answered (valued (layout-of k f) (stop code 0 0)) ≡ read-of k f s d → r ≡ not-asked code → Asks k f s d r
+module _ (k f : ℕ) (s w : List ℕ) {r : Asked} where
+  refused-so : (code : ℕ) → answered (valued (layout-of k f) (stop code 0 0)) ≡ read-at k f s w → r ≡ not-asked code → Asks k f s w r
   refused-so code e h = rw h (record { inside = omega arith; within = over; is = e })
 
-  pub asks-long : longest-input < length s → r ≡ not-asked 1 → Asks k f s d r
+  pub asks-long : longest-input < length s → r ≡ not-asked 1 → Asks k f s w r
   unfolding read
   asks-long h = refused-so 1 (rw (lt-leb (length s) longest-input h))
 
-  module _ (h : length s ≤ longest-input) where
-    pub asks-far : length s < d .start + d .length → r ≡ not-asked 10 → Asks k f s d r
+  module _ (d : Descriptor) (i : Has-words w d) (h : length s ≤ longest-input) where
+    pub asks-far : length s < d .start + d .length → r ≡ not-asked 10 → Asks k f s w r
     unfolding read
-    asks-far l = refused-so 10 (rw (le-leb (length s) longest-input h, lt-leb (d .start + d .length) (length s) l))
+    asks-far l = refused-so 10 (by-words s w d i k f (rw (le-leb (length s) longest-input h, lt-leb (d .start + d .length) (length s) l)))
 
     module _ (l : d .start + d .length ≤ length s) where
-      pub asks-kind : (d .kind ≡ k → ⊥) → r ≡ not-asked 11 → Asks k f s d r
+      pub asks-kind : (d .kind ≡ k → ⊥) → r ≡ not-asked 11 → Asks k f s w r
       unfolding read
-      asks-kind z = refused-so 11 (rw (le-leb (length s) longest-input h, le-leb (d .start + d .length) (length s) l, ne-eqb (d .kind) k z))
+      asks-kind z = refused-so 11 (by-words s w d i k f (rw (le-leb (length s) longest-input h, le-leb (d .start + d .length) (length s) l, ne-eqb (d .kind) k z)))
 
       module _ (e : d .kind ≡ k) where
-        pub asks-format : (d .format .0 ≡ f → ⊥) → r ≡ not-asked 11 → Asks k f s d r
+        pub asks-format : (d .format .0 ≡ f → ⊥) → r ≡ not-asked 11 → Asks k f s w r
         unfolding read
-        asks-format z = refused-so 11 (rw (le-leb (length s) longest-input h, le-leb (d .start + d .length) (length s) l, eq-eqb (d .kind) k e, ne-eqb (d .format .0) f z))
+        asks-format z = refused-so 11 (by-words s w d i k f (rw (le-leb (length s) longest-input h, le-leb (d .start + d .length) (length s) l, eq-eqb (d .kind) k e, ne-eqb (d .format .0) f z)))
 
-pub asks-on : (k f : ℕ) (s : List ℕ) (d : Descriptor) → length s ≤ longest-input → d .start + d .length ≤ length s → d .kind ≡ k → d .format .0 ≡ f
-    → Asks k f s d (record { passed = passed.Got (record { at = d .start; steps = 0 }); end = d .start + d .length })
+pub asks-on : (k f : ℕ) (s w : List ℕ) (d : Descriptor) → Has-words w d → length s ≤ longest-input → d .start + d .length ≤ length s → d .kind ≡ k → d .format .0 ≡ f
+    → Asks k f s w (record { passed = passed.Got (record { at = d .start; steps = 0 }); end = d .start + d .length })
 unfolding read
-asks-on k f s d h l e z =
+asks-on k f s w d i h l e z =
     let n : length (take (d .start + d .length) s) ≡ d .start + d .length = length-take-le (d .start + d .length) s l in
     record {
       inside = l;
       within = inside {c = record { at = d .start; steps = 0 }} (record { inside = omega (arith, n); counted = omega arith });
-      is = rw (le-leb (length s) longest-input h, le-leb (d .start + d .length) (length s) l, eq-eqb (d .kind) k e, eq-eqb (d .format .0) f z);
+      is = by-words s w d i k f (rw (le-leb (length s) longest-input h, le-leb (d .start + d .length) (length s) l, eq-eqb (d .kind) k e, eq-eqb (d .format .0) f z));
     }
 
-module _ {k f : ℕ} {s : List ℕ} {d : Descriptor} {r : Asked} (a : Asks k f s d r) where
+module _ {k f : ℕ} {s w : List ℕ} {r : Asked} (a : Asks k f s w r) where
   pub asked-part : r .end ≡ length (take (r .end) s)
   asked-part = sym (length-take-le (r .end) s (a .inside))
 
   pub asked-within : Within (take (r .end) s) (r .passed)
   asked-within = a .within
 
-  pub read-so : {o : Outcome} {vs : List Value} → Answers (layout-of k f) (take (r .end) s) (r .passed) o vs → answer-of o vs ≡ read-of k f s d
+  pub read-so : {o : Outcome} {vs : List Value} → Answers (layout-of k f) (take (r .end) s) (r .passed) o vs → answer-of o vs ≡ read-at k f s w
   read-so i = i .is ∙ a .is
 
-pub ruleset asking = (nothing-asked, asks-long, asks-far, asks-kind, asks-format, asks-on, asked-part, asked-within, read-so, needs)
+pub ruleset asking = (nothing-asked, asks-long, asks-far, asks-kind, asks-format, asks-on, needs)
+
+-- of what has been asked, for the field readings
+pub ruleset asked = (asked-part, asked-within, read-so, needs)

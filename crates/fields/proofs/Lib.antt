@@ -1,3 +1,4 @@
+pub mod Words
 pub mod Asking
 pub mod Slices
 pub mod Lossless

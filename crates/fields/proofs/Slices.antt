@@ -23,6 +23,7 @@ use Rattle.xdr.specs.declared.Passed.the-variants as passed
 use Rattle.xdr.specs.Shown.{span, answer-of, Answers}
 use Rattle.layout.specs.Chain.{Within, inside, over}
 use Rattle.fields.specs.Shown.{unread, Begins}
+use Rattle.fields.proofs.Words.{span-by-words, whole-by-words}
 
 -- ---- the payload
 
@@ -138,4 +139,4 @@ module _ {s : List ℕ} {at : ℕ} {p : Passed} (b : Begins s at p) where
   pub segment-so : {o : Outcome} {vs : List Value} → Answers segment-fields s p o vs → answer-of o vs ≡ segment-at s at
   segment-so a = a .is ∙ b .is
 
-pub ruleset slices = (payload-long, payload-far, payload-there, payload-inside, payload-fits, payload-part, whole-long, whole-behind, whole-far, whole-there, list-short, list-far, list-cut, list-there, word-there, begins-long, begins-far, begins-there, begins-within, segment-so, needs)
+pub ruleset slices = (span-by-words, whole-by-words, payload-long, payload-far, payload-there, payload-inside, payload-fits, payload-part, whole-long, whole-behind, whole-far, whole-there, list-short, list-far, list-cut, list-there, word-there, begins-long, begins-far, begins-there, begins-within, segment-so, needs)

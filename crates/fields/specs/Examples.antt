@@ -6,8 +6,7 @@ use mathlib.Core.Bool.{true, false}
 use mathlib.Core.List.{List, [], _∷_, map}
 use Rattle.reading.specs.Examples.{Result, of-word, Example, list-words}
 use Rattle.reading.specs.Answer.{read}
-use Rattle.store.specs.declared.Descriptor.{Descriptor}
-use Rattle.fields.specs.Shown.{read-of, listed}
+use Rattle.fields.specs.Shown.{read-at, listed}
 use Rattle.fields.specs.declared.lists.Listed.{Listed}
 
 -- the word with index 1 of a list of two
@@ -30,10 +29,6 @@ pub the-names-hold : shown ≡ map (λ (e : Example). e .result) list-words
 unfolding shown list-words
 the-names-hold = refl
 
--- a descriptor that is handed in, by the names of its fields: its kind, format, start and length are what is asked
-pub a-descriptor : Descriptor
-a-descriptor = record { kind = 11; format = record { 0 = 12 }; start = 13; length = 14; parent = 15; depth = 16; first = 17 }
-
-pub the-descriptor-holds : (s : List ℕ) → read-of 1 2 s a-descriptor ≡ read 1 2 s 11 12 13 14
-unfolding a-descriptor
+-- a descriptor's words, as they are handed in: kind, format, start and length are what is asked
+pub the-descriptor-holds : (s : List ℕ) → read-at 1 2 s (11 ∷ 12 ∷ 13 ∷ 14 ∷ 15 ∷ 16 ∷ 17 ∷ []) ≡ read 1 2 s 11 12 13 14
 the-descriptor-holds s = refl

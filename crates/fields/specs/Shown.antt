@@ -2,7 +2,7 @@
 use Prim.Native.Nat.{ℕ, _≤_}
 use mathlib.Core.Path.{_≡_}
 use mathlib.Core.List.{List}
-use lib.ListN.{length, take}
+use lib.ListN.{length, take, getD}
 use Rattle.reading.specs.Answer as answer
 use Rattle.reading.specs.Answer.{Fields, answered, layout-of, read, segment-fields, segment-at}
 use Rattle.xdr.specs.declared.Passed.{Passed}
@@ -13,9 +13,19 @@ use Rattle.layout.specs.Chain.{Within}
 use Rattle.fields.specs.declared.ask.Asked.{Asked}
 use Rattle.fields.specs.declared.lists.Listed.{Listed}
 
--- the fields of this kind and format, of a descriptor
-abbrev pub read-of : (kind format : ℕ) → List ℕ → Descriptor → Fields
-read-of k f s d = read k f s (d .kind) (d .format .0) (d .start) (d .length)
+-- a descriptor has these words
+pub record Has-words (w : List ℕ) (d : Descriptor) : Type 0 where
+  pub kind : d .kind ≡ getD w 0 0
+  pub format : d .format .0 ≡ getD w 1 0
+  pub start : d .start ≡ getD w 2 0
+  pub extent : d .length ≡ getD w 3 0
+  pub parent : d .parent ≡ getD w 4 0
+  pub depth : d .depth ≡ getD w 5 0
+  pub first : d .first ≡ getD w 6 0
+
+-- the fields of this kind and format, of a descriptor's words
+abbrev pub read-at : (kind format : ℕ) → List ℕ → List ℕ → Fields
+read-at k f s w = read k f s (getD w 0 0) (getD w 1 0) (getD w 2 0) (getD w 3 0)
 
 abbrev pub unread : ℕ → Passed
 unread code = passed.Stop (record { code = code; at = 0; steps = 0 })
@@ -24,10 +34,10 @@ abbrev pub not-asked : ℕ → Asked
 not-asked code = record { passed = unread code; end = 0 }
 
 -- the layout, read on from here and held to the range, is what the field reading answers
-pub record Asks (kind format : ℕ) (s : List ℕ) (d : Descriptor) (r : Asked) : Type 0 where
+pub record Asks (kind format : ℕ) (s w : List ℕ) (r : Asked) : Type 0 where
   pub inside : r .end ≤ length s
   pub within : Within (take (r .end) s) (r .passed)
-  pub is : answered (read-on (layout-of kind format) (take (r .end) s) (r .passed)) ≡ read-of kind format s d
+  pub is : answered (read-on (layout-of kind format) (take (r .end) s) (r .passed)) ≡ read-at kind format s w
 
 -- a segment, read on from here, is the one at this position
 pub record Begins (s : List ℕ) (at : ℕ) (p : Passed) : Type 0 where

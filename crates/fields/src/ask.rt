@@ -1,7 +1,8 @@
 // What comes before every field reading: whether the descriptor is one that it reads, and lies in the input.
 ghost use mathlib.Core.Path.{_≡_};
 ghost use Rattle.fields.specs.Shown.{Asks, not-asked, unread};
-use store::Descriptor;
+use crate::descriptor::Words;
+use crate::descriptor::descriptor;
 use xdr::Cursor;
 use xdr::MAX_INPUT_SIZE;
 use xdr::Outcome;
@@ -33,21 +34,22 @@ fn refused(code: u32) -> Asked
     }
 }
 
-pub fn ask(s: &[u8], d: Descriptor, kind: u32, format: u32) -> Asked
-    ensures { λ r. ⌜ Asks kind format (now (s .entry)) d r ⌝ }
+pub fn ask(s: &[u8], d: &Words, kind: u32, format: u32) -> Asked
+    ensures { λ r. ⌜ Asks kind format (now (s .entry)) (now (d .entry)) r ⌝ }
 {
     if MAX_INPUT_SIZE < s.len() {
         return refused(1);
     }
-    let start = d.start as usize;
-    let end = start + d.length as usize;
+    let x = descriptor(d);
+    let start = x.start as usize;
+    let end = start + x.length as usize;
     if s.len() < end {
         return refused(10);
     }
-    if d.kind != kind {
+    if x.kind != kind {
         return refused(11);
     }
-    if d.format.0 != format {
+    if x.format.0 != format {
         return refused(11);
     }
     Asked {

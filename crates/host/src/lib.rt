@@ -1,4 +1,5 @@
-// What a C host links: the calls under plain names, with the contracts that they have in `datagram` and `fields`.
+// What a C host links: the field readings, each by the reader of its layout; and the other calls under plain names, with the contracts that they have in
+// `datagram` and `fields`.
 ghost use mathlib.Core.Path.{_≡_};
 ghost use Rattle.reading.specs.Answer.{one, run};
 ghost use Rattle.datagram.specs.Shown.{decoded, ran};
@@ -7,10 +8,13 @@ use datagram::decode::Decoded;
 use datagram::decode::decode;
 use datagram::run::decode_run;
 
-mod descriptor;
-mod lists;
-mod payload;
-mod read;
+pub mod extended;
+pub mod heads;
+pub mod lists;
+pub mod mpls;
+pub mod payload;
+pub mod sampled;
+pub mod wireless;
 
 // One datagram.
 #[no_mangle]

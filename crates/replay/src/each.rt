@@ -6,11 +6,10 @@ ghost use Rattle.reading.specs.Sizes.{descriptor-words};
 use crate::heads;
 use crate::records;
 use datagram::decode::Answer;
-use numbers::DataFormat;
+use fields::descriptor::Words;
 use store::DESCRIPTOR_WORDS;
-use store::Descriptor;
 
-fn wireless(s: &[u8], d: Descriptor, format: u32) {
+fn wireless(s: &[u8], d: &Words, format: u32) {
     match format {
         1013 => records::extended_80211_payload(s, d),
         1014 => records::extended_80211_rx(s, d),
@@ -20,7 +19,7 @@ fn wireless(s: &[u8], d: Descriptor, format: u32) {
     }
 }
 
-fn extended(s: &[u8], d: Descriptor, format: u32) {
+fn extended(s: &[u8], d: &Words, format: u32) {
     match format {
         1001 => records::extended_switch(s, d),
         1002 => records::extended_router(s, d),
@@ -38,7 +37,7 @@ fn extended(s: &[u8], d: Descriptor, format: u32) {
     }
 }
 
-fn flow_record(s: &[u8], d: Descriptor, format: u32) {
+fn flow_record(s: &[u8], d: &Words, format: u32) {
     match format {
         1 => records::sampled_header(s, d),
         2 => records::sampled_ethernet(s, d),
@@ -48,7 +47,7 @@ fn flow_record(s: &[u8], d: Descriptor, format: u32) {
     }
 }
 
-fn sample(s: &[u8], d: Descriptor, format: u32) {
+fn sample(s: &[u8], d: &Words, format: u32) {
     match format {
         1 => heads::flow_sample(s, d),
         2 => heads::counters_sample(s, d),
@@ -59,9 +58,10 @@ fn sample(s: &[u8], d: Descriptor, format: u32) {
     }
 }
 
-fn descriptor(s: &[u8], d: Descriptor) {
-    let format = d.format.0;
-    let kind = d.kind;
+fn descriptor(s: &[u8], d: &Words) {
+    let x = fields::descriptor::descriptor(d);
+    let kind = x.kind;
+    let format = x.format.0;
     match kind {
         0 => heads::header(s, d),
         1 => sample(s, d, format),
@@ -70,19 +70,19 @@ fn descriptor(s: &[u8], d: Descriptor) {
     }
 }
 
-// The descriptor whose first word is at `at`.
-fn descriptor_at(store: &[u32], at: usize) -> Descriptor
+// The words of the descriptor whose first one is at `at`.
+fn words_at(store: &[u32], at: usize) -> Words
     requires { ⌜ at + descriptor-words ≤ length (now store) ⌝ }
 {
-    Descriptor {
-        kind: store[at],
-        format: DataFormat(store[at + 1]),
-        start: store[at + 2],
-        length: store[at + 3],
-        parent: store[at + 4],
-        depth: store[at + 5],
-        first: store[at + 6],
-    }
+    [
+        store[at],
+        store[at + 1],
+        store[at + 2],
+        store[at + 3],
+        store[at + 4],
+        store[at + 5],
+        store[at + 6],
+    ]
 }
 
 // The first n descriptors.
@@ -91,8 +91,8 @@ fn descriptors(s: &[u8], store: &[u32], n: usize)
 {
     let mut i = 0;
     while i < n {
-        let d = descriptor_at(store, DESCRIPTOR_WORDS * i);
-        descriptor(s, d);
+        let d = words_at(store, DESCRIPTOR_WORDS * i);
+        descriptor(s, &d);
         i += 1;
     }
 }

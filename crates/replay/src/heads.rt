@@ -1,10 +1,10 @@
 // The field reading of a datagram's header and of each sample, and their values: in the order of the memo, by their names.
 use crate::values;
-use fields::heads;
-use store::Descriptor;
+use fields::descriptor::Words;
+use host::heads;
 
-pub fn header(s: &[u8], d: Descriptor) {
-    let r = heads::header(s, d);
+pub fn header(s: &[u8], d: &Words) {
+    let r = heads::latchplume_read_header(s, d);
     let o = r.outcome;
     values::outcome(o);
     values::word(r.version);
@@ -16,8 +16,8 @@ pub fn header(s: &[u8], d: Descriptor) {
     values::word(r.num_samples);
 }
 
-pub fn flow_sample(s: &[u8], d: Descriptor) {
-    let r = heads::flow_sample(s, d);
+pub fn flow_sample(s: &[u8], d: &Words) {
+    let r = heads::latchplume_read_flow_sample(s, d);
     let o = r.outcome;
     values::outcome(o);
     values::word(r.sequence_number);
@@ -33,8 +33,8 @@ pub fn flow_sample(s: &[u8], d: Descriptor) {
     values::word(r.num_records);
 }
 
-pub fn counters_sample(s: &[u8], d: Descriptor) {
-    let r = heads::counters_sample(s, d);
+pub fn counters_sample(s: &[u8], d: &Words) {
+    let r = heads::latchplume_read_counters_sample(s, d);
     let o = r.outcome;
     values::outcome(o);
     values::word(r.sequence_number);
@@ -43,8 +43,8 @@ pub fn counters_sample(s: &[u8], d: Descriptor) {
     values::word(r.num_records);
 }
 
-pub fn flow_sample_expanded(s: &[u8], d: Descriptor) {
-    let r = heads::flow_sample_expanded(s, d);
+pub fn flow_sample_expanded(s: &[u8], d: &Words) {
+    let r = heads::latchplume_read_flow_sample_expanded(s, d);
     let o = r.outcome;
     values::outcome(o);
     values::word(r.sequence_number);
@@ -63,8 +63,8 @@ pub fn flow_sample_expanded(s: &[u8], d: Descriptor) {
     values::word(r.num_records);
 }
 
-pub fn counters_sample_expanded(s: &[u8], d: Descriptor) {
-    let r = heads::counters_sample_expanded(s, d);
+pub fn counters_sample_expanded(s: &[u8], d: &Words) {
+    let r = heads::latchplume_read_counters_sample_expanded(s, d);
     let o = r.outcome;
     values::outcome(o);
     values::word(r.sequence_number);
@@ -74,8 +74,8 @@ pub fn counters_sample_expanded(s: &[u8], d: Descriptor) {
     values::word(r.num_records);
 }
 
-pub fn discarded_packet(s: &[u8], d: Descriptor) {
-    let r = heads::discarded_packet(s, d);
+pub fn discarded_packet(s: &[u8], d: &Words) {
+    let r = heads::latchplume_read_discarded_packet(s, d);
     let o = r.outcome;
     values::outcome(o);
     values::word(r.sequence_number);

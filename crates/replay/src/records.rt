@@ -1,13 +1,13 @@
 // The field reading of each flow record, and its values: in the order of the memo, by their names.
 use crate::values;
-use fields::extended;
-use fields::mpls;
-use fields::sampled;
-use fields::wireless;
-use store::Descriptor;
+use fields::descriptor::Words;
+use host::extended;
+use host::mpls;
+use host::sampled;
+use host::wireless;
 
-pub fn sampled_header(s: &[u8], d: Descriptor) {
-    let r = sampled::sampled_header(s, d);
+pub fn sampled_header(s: &[u8], d: &Words) {
+    let r = sampled::latchplume_read_sampled_header(s, d);
     let o = r.outcome;
     values::outcome(o);
     values::word(r.protocol);
@@ -17,8 +17,8 @@ pub fn sampled_header(s: &[u8], d: Descriptor) {
     values::span(header);
 }
 
-pub fn sampled_ethernet(s: &[u8], d: Descriptor) {
-    let r = sampled::sampled_ethernet(s, d);
+pub fn sampled_ethernet(s: &[u8], d: &Words) {
+    let r = sampled::latchplume_read_sampled_ethernet(s, d);
     let o = r.outcome;
     values::outcome(o);
     values::word(r.length);
@@ -29,8 +29,8 @@ pub fn sampled_ethernet(s: &[u8], d: Descriptor) {
     values::word(r.eth_type);
 }
 
-pub fn sampled_ipv4(s: &[u8], d: Descriptor) {
-    let r = sampled::sampled_ipv4(s, d);
+pub fn sampled_ipv4(s: &[u8], d: &Words) {
+    let r = sampled::latchplume_read_sampled_ipv4(s, d);
     let o = r.outcome;
     values::outcome(o);
     values::word(r.length);
@@ -43,8 +43,8 @@ pub fn sampled_ipv4(s: &[u8], d: Descriptor) {
     values::word(r.tos);
 }
 
-pub fn sampled_ipv6(s: &[u8], d: Descriptor) {
-    let r = sampled::sampled_ipv6(s, d);
+pub fn sampled_ipv6(s: &[u8], d: &Words) {
+    let r = sampled::latchplume_read_sampled_ipv6(s, d);
     let o = r.outcome;
     values::outcome(o);
     values::word(r.length);
@@ -59,8 +59,8 @@ pub fn sampled_ipv6(s: &[u8], d: Descriptor) {
     values::word(r.priority);
 }
 
-pub fn extended_switch(s: &[u8], d: Descriptor) {
-    let r = extended::extended_switch(s, d);
+pub fn extended_switch(s: &[u8], d: &Words) {
+    let r = extended::latchplume_read_extended_switch(s, d);
     let o = r.outcome;
     values::outcome(o);
     values::word(r.src_vlan);
@@ -69,8 +69,8 @@ pub fn extended_switch(s: &[u8], d: Descriptor) {
     values::word(r.dst_priority);
 }
 
-pub fn extended_router(s: &[u8], d: Descriptor) {
-    let r = extended::extended_router(s, d);
+pub fn extended_router(s: &[u8], d: &Words) {
+    let r = extended::latchplume_read_extended_router(s, d);
     let o = r.outcome;
     values::outcome(o);
     let next_hop = r.next_hop;
@@ -79,8 +79,8 @@ pub fn extended_router(s: &[u8], d: Descriptor) {
     values::word(r.dst_mask_len);
 }
 
-pub fn extended_gateway(s: &[u8], d: Descriptor) {
-    let r = extended::extended_gateway(s, d);
+pub fn extended_gateway(s: &[u8], d: &Words) {
+    let r = extended::latchplume_read_extended_gateway(s, d);
     let o = r.outcome;
     values::outcome(o);
     let next_hop = r.next_hop;
@@ -95,8 +95,8 @@ pub fn extended_gateway(s: &[u8], d: Descriptor) {
     values::word(r.local_pref);
 }
 
-pub fn extended_user(s: &[u8], d: Descriptor) {
-    let r = extended::extended_user(s, d);
+pub fn extended_user(s: &[u8], d: &Words) {
+    let r = extended::latchplume_read_extended_user(s, d);
     let o = r.outcome;
     values::outcome(o);
     values::word(r.src_charset);
@@ -107,8 +107,8 @@ pub fn extended_user(s: &[u8], d: Descriptor) {
     values::span(dst_user);
 }
 
-pub fn extended_url(s: &[u8], d: Descriptor) {
-    let r = extended::extended_url(s, d);
+pub fn extended_url(s: &[u8], d: &Words) {
+    let r = extended::latchplume_read_extended_url(s, d);
     let o = r.outcome;
     values::outcome(o);
     values::word(r.direction);
@@ -118,8 +118,8 @@ pub fn extended_url(s: &[u8], d: Descriptor) {
     values::span(host);
 }
 
-pub fn extended_mpls(s: &[u8], d: Descriptor) {
-    let r = mpls::extended_mpls(s, d);
+pub fn extended_mpls(s: &[u8], d: &Words) {
+    let r = mpls::latchplume_read_extended_mpls(s, d);
     let o = r.outcome;
     values::outcome(o);
     let next_hop = r.next_hop;
@@ -130,8 +130,8 @@ pub fn extended_mpls(s: &[u8], d: Descriptor) {
     values::span(out_stack);
 }
 
-pub fn extended_nat(s: &[u8], d: Descriptor) {
-    let r = extended::extended_nat(s, d);
+pub fn extended_nat(s: &[u8], d: &Words) {
+    let r = extended::latchplume_read_extended_nat(s, d);
     let o = r.outcome;
     values::outcome(o);
     let src_address = r.src_address;
@@ -140,8 +140,8 @@ pub fn extended_nat(s: &[u8], d: Descriptor) {
     values::address(dst_address);
 }
 
-pub fn extended_mpls_tunnel(s: &[u8], d: Descriptor) {
-    let r = mpls::extended_mpls_tunnel(s, d);
+pub fn extended_mpls_tunnel(s: &[u8], d: &Words) {
+    let r = mpls::latchplume_read_extended_mpls_tunnel(s, d);
     let o = r.outcome;
     values::outcome(o);
     let tunnel_lsp_name = r.tunnel_lsp_name;
@@ -150,8 +150,8 @@ pub fn extended_mpls_tunnel(s: &[u8], d: Descriptor) {
     values::word(r.tunnel_cos);
 }
 
-pub fn extended_mpls_vc(s: &[u8], d: Descriptor) {
-    let r = mpls::extended_mpls_vc(s, d);
+pub fn extended_mpls_vc(s: &[u8], d: &Words) {
+    let r = mpls::latchplume_read_extended_mpls_vc(s, d);
     let o = r.outcome;
     values::outcome(o);
     let vc_instance_name = r.vc_instance_name;
@@ -161,8 +161,8 @@ pub fn extended_mpls_vc(s: &[u8], d: Descriptor) {
     values::word(r.vc_cos);
 }
 
-pub fn extended_mpls_fec(s: &[u8], d: Descriptor) {
-    let r = mpls::extended_mpls_fec(s, d);
+pub fn extended_mpls_fec(s: &[u8], d: &Words) {
+    let r = mpls::latchplume_read_extended_mpls_fec(s, d);
     let o = r.outcome;
     values::outcome(o);
     let fec_addr_prefix = r.fec_addr_prefix;
@@ -170,23 +170,23 @@ pub fn extended_mpls_fec(s: &[u8], d: Descriptor) {
     values::word(r.fec_prefix_len);
 }
 
-pub fn extended_mpls_lvp_fec(s: &[u8], d: Descriptor) {
-    let r = mpls::extended_mpls_lvp_fec(s, d);
+pub fn extended_mpls_lvp_fec(s: &[u8], d: &Words) {
+    let r = mpls::latchplume_read_extended_mpls_lvp_fec(s, d);
     let o = r.outcome;
     values::outcome(o);
     values::word(r.mpls_fec_addr_prefix_length);
 }
 
-pub fn extended_vlan_tunnel(s: &[u8], d: Descriptor) {
-    let r = extended::extended_vlan_tunnel(s, d);
+pub fn extended_vlan_tunnel(s: &[u8], d: &Words) {
+    let r = extended::latchplume_read_extended_vlan_tunnel(s, d);
     let o = r.outcome;
     values::outcome(o);
     let stack = r.stack;
     values::span(stack);
 }
 
-pub fn extended_80211_payload(s: &[u8], d: Descriptor) {
-    let r = wireless::extended_80211_payload(s, d);
+pub fn extended_80211_payload(s: &[u8], d: &Words) {
+    let r = wireless::latchplume_read_extended_80211_payload(s, d);
     let o = r.outcome;
     values::outcome(o);
     values::word(r.cipher_suite);
@@ -194,8 +194,8 @@ pub fn extended_80211_payload(s: &[u8], d: Descriptor) {
     values::span(data);
 }
 
-pub fn extended_80211_rx(s: &[u8], d: Descriptor) {
-    let r = wireless::extended_80211_rx(s, d);
+pub fn extended_80211_rx(s: &[u8], d: &Words) {
+    let r = wireless::latchplume_read_extended_80211_rx(s, d);
     let o = r.outcome;
     values::outcome(o);
     let ssid = r.ssid;
@@ -210,8 +210,8 @@ pub fn extended_80211_rx(s: &[u8], d: Descriptor) {
     values::word(r.packet_duration);
 }
 
-pub fn extended_80211_tx(s: &[u8], d: Descriptor) {
-    let r = wireless::extended_80211_tx(s, d);
+pub fn extended_80211_tx(s: &[u8], d: &Words) {
+    let r = wireless::latchplume_read_extended_80211_tx(s, d);
     let o = r.outcome;
     values::outcome(o);
     let ssid = r.ssid;
@@ -227,8 +227,8 @@ pub fn extended_80211_tx(s: &[u8], d: Descriptor) {
     values::word(r.power);
 }
 
-pub fn extended_80211_aggregation(s: &[u8], d: Descriptor) {
-    let r = wireless::extended_80211_aggregation(s, d);
+pub fn extended_80211_aggregation(s: &[u8], d: &Words) {
+    let r = wireless::latchplume_read_extended_80211_aggregation(s, d);
     let o = r.outcome;
     values::outcome(o);
     values::word(r.pdu_count);

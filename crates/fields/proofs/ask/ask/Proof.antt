@@ -8,6 +8,7 @@ ask-spec =
     (tie.spec
     (λ c κs. search asking)  -- refused-requires
     (λ c. search asking)  -- returns
+    (λ c κs. search asking)  -- descriptor-requires
     (λ c. search asking)  -- cast-start
     (λ c. search asking)  -- cast-end
     (λ c. search asking)  -- add-end

@@ -6,6 +6,7 @@ pub payload-span-spec : {M : Type 1} → statement M
 payload-span-spec =
     tie.close
     (tie.spec
+    (λ c κs. search slices)  -- descriptor-requires
     (λ c. search slices)  -- cast-start
     (λ c. search slices)  -- cast-count
     (λ c. search slices)  -- returns

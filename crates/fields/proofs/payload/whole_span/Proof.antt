@@ -6,6 +6,7 @@ pub whole-span-spec : {M : Type 1} → statement M
 whole-span-spec =
     tie.close
     (tie.spec
+    (λ c κs. search slices)  -- descriptor-requires
     (λ c. search slices)  -- cast-first
     (λ c. search slices)  -- cast-start
     (λ c. search slices)  -- cast-padded

@@ -16,8 +16,8 @@ descriptors-spec =
     Inv-loop
     μ-loop
     (λ c. search needs)  -- loop-holds
-    (λ c. search needs)  -- mul-descriptor-at
-    (λ c κs. search needs)  -- descriptor-at-requires
+    (λ c. search needs)  -- mul-words-at
+    (λ c κs. search needs)  -- words-at-requires
     (λ c κs. search needs)  -- descriptor-requires
     (λ c. search needs)  -- add-i
     (λ c. search needs)  -- loop-less

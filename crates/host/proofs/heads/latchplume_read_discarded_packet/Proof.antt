@@ -1,0 +1,12 @@
+use Rattle.fields.proofs.Asking.{asked}
+use Rattle.host.proofs.heads.latchplume_read_discarded_packet.Statement.{statement}
+use Rattle.host.proofs.heads.latchplume_read_discarded_packet.Tie as tie
+
+pub latchplume-read-discarded-packet-spec : {M : Type 1} → statement M
+latchplume-read-discarded-packet-spec =
+    tie.close (tie.spec
+    (λ c κs. search asked)  -- ask-requires
+    (λ c. search asked)  -- slice-aggregate-parse
+    (λ c κs. search asked)  -- parse-requires
+    (λ c. search asked)  -- returns
+    )

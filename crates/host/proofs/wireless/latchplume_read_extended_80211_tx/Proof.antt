@@ -1,0 +1,12 @@
+use Rattle.fields.proofs.Asking.{asked}
+use Rattle.host.proofs.wireless.latchplume_read_extended_80211_tx.Statement.{statement}
+use Rattle.host.proofs.wireless.latchplume_read_extended_80211_tx.Tie as tie
+
+pub latchplume-read-extended-80211-tx-spec : {M : Type 1} → statement M
+latchplume-read-extended-80211-tx-spec =
+    tie.close (tie.spec
+    (λ c κs. search asked)  -- ask-requires
+    (λ c. search asked)  -- slice-aggregate-parse
+    (λ c κs. search asked)  -- parse-requires
+    (λ c. search asked)  -- returns
+    )
