@@ -1,4 +1,4 @@
-// The store: a descriptor, its seven words by name, and where the next one goes. What writes descriptors writes them here.
+// The store: a descriptor, its words by name, and where the next one goes. What writes descriptors writes them here.
 ghost use mathlib.Core.Path.{_≡_};
 ghost use Prim.Native.Nat.{_+_, _/_, _^_, _≤_, _<_};
 ghost use lib.ListN.{length};
