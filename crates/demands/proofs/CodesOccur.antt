@@ -11,7 +11,7 @@ use Rattle.reading.specs.Cursor.{read-item, follow}
 use Rattle.reading.specs.Layout.{address-of, run-of, field, fields, last-number, opened, flows, flow, samples, datagram-to}
 use Rattle.reading.specs.Values.{valued, reading}
 use Rattle.reading.specs.Answer.{size, rows, header-of, no-header, Answer, Fields, stored, one, tried, datagrams, run, layout-of, answered, read}
-use Rattle.reading.specs.Sizes.{longest-input}
+use Rattle.reading.specs.Sizes.{longest-input, descriptor-words}
 use Rattle.demands.specs.Codes.{one-codes, run-codes, field-codes, Each, none, also}
 use Rattle.demands.proofs.Itemised.{long-refused}
 use Rattle.demands.proofs.Accepted.{one-reads}
@@ -52,7 +52,7 @@ too-deep =
     (1016 ∷ 120 ∷ 1 ∷ 1 ∷ 1016 ∷ 104 ∷ 1 ∷ 1 ∷ 1016 ∷ 88 ∷ 1 ∷ 1 ∷ 1016 ∷ 72 ∷ 1 ∷ 1 ∷ 1016 ∷ 56 ∷ 1 ∷ 1 ∷ 1016 ∷ 40 ∷ 1 ∷ 1 ∷ 1016 ∷ 24 ∷ 1 ∷ 1 ∷ 1016 ∷ 8 ∷ 1 ∷ 1 ∷ [])
 
 abbrev store : List ℕ
-store = replicate 7 165
+store = replicate descriptor-words 165
 
 pub one-occur : Each (λ c. (s w : List ℕ) × (one s w .code ≡ c)) one-codes
 unfolding be4 known header-protocols follow read-item address-of run-of field fields last-number opened flows flow samples datagram-to size rows header-of no-header stored one utf8 longest-to among

@@ -1,8 +1,9 @@
 -- A string of one byte with three of pad: what the pad holds does not matter, and the byte before it does. Computed. Assumes nothing.
-use Prim.Native.Nat.{ℕ}
+use Prim.Native.Nat.{ℕ, _*_}
 use mathlib.Core.Path.{_≡_, refl}
 use mathlib.Core.List.{List, [], _∷_, _++_}
 use lib.ListN.{replicate}
+use Rattle.reading.specs.Sizes.{descriptor-words}
 use Rattle.reading.specs.Bytes.{be4}
 use Rattle.reading.specs.Utf8.{utf8, longest-to, among}
 use Rattle.reading.specs.Numbers.{known, header-protocols}
@@ -17,7 +18,7 @@ input a b c d =
     ∷ a ∷ b ∷ c ∷ d ∷ replicate 8 0
 
 pub store : List ℕ
-store = replicate 21 165
+store = replicate (3 * descriptor-words) 165
 
 -- three zeros, and three other bytes
 pub pad-free : one (input 97 1 128 255) store ≡ one (input 97 0 0 0) store
