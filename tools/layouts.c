@@ -129,10 +129,10 @@ static const struct field SAMPLED_IPV6[] = {
 };
 
 static const struct field EXTENDED_SWITCH[] = {
-    SAID(extended_switch, src_vlan, NUMBER, say_unknown),
-    SAID(extended_switch, src_priority, NUMBER, say_unknown),
-    SAID(extended_switch, dst_vlan, NUMBER, say_unknown),
-    SAID(extended_switch, dst_priority, NUMBER, say_unknown),
+    SAID(extended_switch, src_vlan, NUMBER, say_number_or_unknown),
+    SAID(extended_switch, src_priority, NUMBER, say_number_or_unknown),
+    SAID(extended_switch, dst_vlan, NUMBER, say_number_or_unknown),
+    SAID(extended_switch, dst_priority, NUMBER, say_number_or_unknown),
 };
 
 static const struct field EXTENDED_ROUTER[] = {

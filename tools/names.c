@@ -250,7 +250,7 @@ void say_direction(uint32_t value)
         say(value == 1 ? "source" : "destination");
 }
 
-void say_unknown(uint32_t value)
+void say_number_or_unknown(uint32_t value)
 {
     if (value == UINT32_MAX)
         say("unknown");

@@ -20,7 +20,7 @@ void say_hexadecimal(uint32_t value);
 void say_tcp_flags(uint32_t value);
 void say_drop_reason(uint32_t value);
 void say_direction(uint32_t value);
-void say_unknown(uint32_t value);
+void say_number_or_unknown(uint32_t value);
 void say_uptime(uint32_t value);
 void say_microseconds(uint32_t value);
 void say_milliwatts(uint32_t value);

@@ -1,17 +1,14 @@
+-- Made by layouts/make from layouts/table.
 -- What this crate's records are in terms of the reading: the values of their fields, in the order of the layout. Assumes nothing.
-use Prim.Native.Nat.{ℕ}
 use mathlib.Core.List.{List, [], _∷_}
 use Rattle.reading.specs.Script.{Value, number, octets, part}
 use Rattle.xdr.specs.Shown.{span, an-address}
-use Rattle.layout.specs.Chain.{loaded}
 use Rattle.flow_layouts.specs.declared.sampled.SampledHeader.{SampledHeader}
 use Rattle.flow_layouts.specs.declared.sampled.SampledEthernet.{SampledEthernet}
 use Rattle.flow_layouts.specs.declared.sampled.SampledIpv4.{SampledIpv4}
 use Rattle.flow_layouts.specs.declared.sampled.SampledIpv6.{SampledIpv6}
 use Rattle.flow_layouts.specs.declared.extended.ExtendedSwitch.{ExtendedSwitch}
 use Rattle.flow_layouts.specs.declared.extended.ExtendedRouter.{ExtendedRouter}
-use Rattle.flow_layouts.specs.declared.extended.Route.{Route}
-use Rattle.flow_layouts.specs.declared.wireless.Network.{Network}
 use Rattle.flow_layouts.specs.declared.extended.ExtendedGateway.{ExtendedGateway}
 use Rattle.flow_layouts.specs.declared.extended.ExtendedUser.{ExtendedUser}
 use Rattle.flow_layouts.specs.declared.extended.ExtendedUrl.{ExtendedUrl}
@@ -44,12 +41,6 @@ extended-switch r = number (r .«src_vlan») ∷ number (r .«src_priority») �
 
 abbrev pub extended-router : ExtendedRouter → List Value
 extended-router r = an-address (r .«next_hop») ∷ number (r .«src_mask_len») ∷ number (r .«dst_mask_len») ∷ []
-
-abbrev pub route : Route → List Value
-route r = part (span (r .«dst_as_path»)) ∷ part (span (r .communities)) ∷ number (r .«local_pref») ∷ []
-
-abbrev pub network : ℕ → Network → List Value
-network n r = part (span (r .ssid)) ∷ octets (r .bssid) ∷ loaded n (r .words)
 
 abbrev pub extended-gateway : ExtendedGateway → List Value
 extended-gateway r = an-address (r .«next_hop») ∷ number (r .«as_number») ∷ number (r .«src_as») ∷ number (r .«src_peer_as») ∷ part (span (r .«dst_as_path»)) ∷ part (span (r .communities)) ∷ number (r .«local_pref») ∷ []

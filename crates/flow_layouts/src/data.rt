@@ -17,6 +17,7 @@ pub fn pass(c: Cursor, s: &[u8], format: u32) -> Passed
         passed: Passed::Got(c),
     };
     match format {
+        // made by layouts/make from layouts/table: from here
         1 => row.protocol(s).words(s, 2).opaque(s).passed,
         2 => row.words(s, 1)
             .six(s, false)
@@ -55,6 +56,7 @@ pub fn pass(c: Cursor, s: &[u8], format: u32) -> Passed
             .long(s)
             .words(s, 1)
             .passed,
+        // made by layouts/make: to here
         _ => row.passed,
     }
 }

@@ -1,12 +1,14 @@
+// Made by layouts/make from layouts/table.
 // What a switch, a router or a server adds to a sampled packet.
 ghost use mathlib.Core.Path.{_≡_};
-ghost use mathlib.Core.List.{[], _∷_, _++_};
-ghost use Rattle.reading.specs.Layout.{addr, list, segments, str, words};
+ghost use mathlib.Core.List.{_∷_, _++_};
+ghost use Rattle.reading.specs.Layout.{addr, list, segments, words};
 ghost use Rattle.reading.specs.Values.{zeros};
 ghost use Rattle.reading.specs.Answer.{layout-of};
 ghost use Rattle.xdr.specs.Shown.{Answers};
-ghost use Rattle.layout.specs.Chain.{Within, Then};
-ghost use Rattle.flow_layouts.specs.Shown.{extended-switch, extended-router, route, extended-gateway, extended-user, extended-url, extended-nat, extended-vlan-tunnel};
+ghost use Rattle.layout.specs.Chain.{Within};
+ghost use Rattle.flow_layouts.specs.Shown.{extended-switch, extended-router, extended-gateway, extended-user, extended-url, extended-nat, extended-vlan-tunnel};
+use crate::parts::Route;
 use layout::field;
 use layout::field::Counted;
 use xdr::Address;
@@ -67,9 +69,9 @@ impl ExtendedRouter {
         requires { ⌜ Within (now s) p ⌝ }
         ensures { λ r. ⌜ Answers (layout-of 2 1002) (now (s .entry)) p (r .outcome) (extended-router r) ⌝ }
     {
-        let hop = field::address(p, s);
-        let passed = hop.passed;
-        let next_hop = hop.address;
+        let address = field::address(p, s);
+        let passed = address.passed;
+        let next_hop = address.address;
         let row = field::words(passed, s, 2);
         let passed = row.passed;
         match passed {
@@ -83,49 +85,19 @@ impl ExtendedRouter {
                 dst_mask_len: 0,
             },
             Passed::Got(d) => {
-                let masks = field::load_words(s, row.at, 2);
+                let words = field::load_words(s, row.at, 2);
                 ExtendedRouter {
                     outcome: d.accepted(),
                     next_hop: next_hop,
-                    src_mask_len: masks[0],
-                    dst_mask_len: masks[1],
+                    src_mask_len: words[0],
+                    dst_mask_len: words[1],
                 }
             }
         }
     }
 }
 
-// What format 1003 ends with.
-struct Route {
-    passed: Passed,
-    dst_as_path: Span,
-    communities: Span,
-    local_pref: u32,
-}
-
-impl Route {
-    fn parse(p: Passed, s: &[u8]) -> Route
-        requires { ⌜ Within (now s) p ⌝ }
-        ensures { λ r. ⌜ Then (segments ∷ list ∷ words 1) (now (s .entry)) p (r .passed) (route r) ⌝ }
-    {
-        let path = field::range(p, s, Counted::Segments);
-        let passed = path.passed;
-        let dst_as_path = path.span;
-        let marks = field::range(passed, s, Counted::List);
-        let passed = marks.passed;
-        let communities = marks.span;
-        let pref = field::word(passed, s);
-        let passed = pref.passed;
-        Route {
-            passed: passed,
-            dst_as_path: dst_as_path,
-            communities: communities,
-            local_pref: pref.value,
-        }
-    }
-}
-
-// Format 1003: the BGP route of a packet. `dst_as_path` is where the first segment begins, and how many there are.
+// Format 1003: the BGP route of a packet.
 #[repr(C)]
 pub struct ExtendedGateway {
     pub outcome: Outcome,
@@ -161,9 +133,9 @@ impl ExtendedGateway {
         requires { ⌜ Within (now s) p ⌝ }
         ensures { λ r. ⌜ Answers (layout-of 2 1003) (now (s .entry)) p (r .outcome) (extended-gateway r) ⌝ }
     {
-        let hop = field::address(p, s);
-        let passed = hop.passed;
-        let next_hop = hop.address;
+        let address = field::address(p, s);
+        let passed = address.passed;
+        let next_hop = address.address;
         let row = field::words(passed, s, 3);
         let passed = row.passed;
         let route = Route::parse(passed, s);
@@ -174,13 +146,13 @@ impl ExtendedGateway {
         match passed {
             Passed::Stop(r) => ExtendedGateway::none(r),
             Passed::Got(d) => {
-                let numbers = field::load_words(s, row.at, 3);
+                let words = field::load_words(s, row.at, 3);
                 ExtendedGateway {
                     outcome: d.accepted(),
                     next_hop: next_hop,
-                    as_number: numbers[0],
-                    src_as: numbers[1],
-                    src_peer_as: numbers[2],
+                    as_number: words[0],
+                    src_as: words[1],
+                    src_peer_as: words[2],
                     dst_as_path: dst_as_path,
                     communities: communities,
                     local_pref: local_pref,
@@ -201,36 +173,30 @@ pub struct ExtendedUser {
 }
 
 impl ExtendedUser {
-    fn none(r: Outcome) -> ExtendedUser
-        ensures { λ a. ⌜ (a .outcome ≡ r) × (extended-user a ≡ zeros (words 1 ++ str ∷ words 1 ++ str ∷ [])) ⌝ }
-    {
-        ExtendedUser {
-            outcome: r,
-            src_charset: 0,
-            src_user: Span { start: 0, count: 0 },
-            dst_charset: 0,
-            dst_user: Span { start: 0, count: 0 },
-        }
-    }
-
     pub fn parse(p: Passed, s: &[u8]) -> ExtendedUser
         requires { ⌜ Within (now s) p ⌝ }
         ensures { λ r. ⌜ Answers (layout-of 2 1004) (now (s .entry)) p (r .outcome) (extended-user r) ⌝ }
     {
-        let src = field::word(p, s);
-        let passed = src.passed;
-        let src_charset = src.value;
-        let src = field::text(passed, s);
-        let passed = src.passed;
-        let src_user = src.span;
-        let dst = field::word(passed, s);
-        let passed = dst.passed;
-        let dst_charset = dst.value;
-        let dst = field::text(passed, s);
-        let passed = dst.passed;
-        let dst_user = dst.span;
+        let word = field::word(p, s);
+        let passed = word.passed;
+        let src_charset = word.value;
+        let text = field::text(passed, s);
+        let passed = text.passed;
+        let src_user = text.span;
+        let word = field::word(passed, s);
+        let passed = word.passed;
+        let dst_charset = word.value;
+        let text = field::text(passed, s);
+        let passed = text.passed;
+        let dst_user = text.span;
         match passed {
-            Passed::Stop(r) => ExtendedUser::none(r),
+            Passed::Stop(r) => ExtendedUser {
+                outcome: r,
+                src_charset: 0,
+                src_user: Span { start: 0, count: 0 },
+                dst_charset: 0,
+                dst_user: Span { start: 0, count: 0 },
+            },
             Passed::Got(d) => ExtendedUser {
                 outcome: d.accepted(),
                 src_charset: src_charset,
@@ -242,7 +208,7 @@ impl ExtendedUser {
     }
 }
 
-// Format 1005: the URL that was asked for.
+// Format 1005: an HTTP request; direction 1 is the source's, 2 the destination's.
 #[repr(C)]
 pub struct ExtendedUrl {
     pub outcome: Outcome,
@@ -256,14 +222,15 @@ impl ExtendedUrl {
         requires { ⌜ Within (now s) p ⌝ }
         ensures { λ r. ⌜ Answers (layout-of 2 1005) (now (s .entry)) p (r .outcome) (extended-url r) ⌝ }
     {
-        let way = field::word(p, s);
-        let passed = way.passed;
-        let path = field::text(passed, s);
-        let passed = path.passed;
-        let url = path.span;
-        let server = field::text(passed, s);
-        let passed = server.passed;
-        let host = server.span;
+        let word = field::word(p, s);
+        let passed = word.passed;
+        let direction = word.value;
+        let text = field::text(passed, s);
+        let passed = text.passed;
+        let url = text.span;
+        let text = field::text(passed, s);
+        let passed = text.passed;
+        let host = text.span;
         match passed {
             Passed::Stop(r) => ExtendedUrl {
                 outcome: r,
@@ -273,7 +240,7 @@ impl ExtendedUrl {
             },
             Passed::Got(d) => ExtendedUrl {
                 outcome: d.accepted(),
-                direction: way.value,
+                direction: direction,
                 url: url,
                 host: host,
             },
@@ -281,7 +248,7 @@ impl ExtendedUrl {
     }
 }
 
-// Format 1007: the addresses that a packet had before or has after their translation.
+// Format 1007: a packet's addresses behind a translation.
 #[repr(C)]
 pub struct ExtendedNat {
     pub outcome: Outcome,
@@ -294,12 +261,12 @@ impl ExtendedNat {
         requires { ⌜ Within (now s) p ⌝ }
         ensures { λ r. ⌜ Answers (layout-of 2 1007) (now (s .entry)) p (r .outcome) (extended-nat r) ⌝ }
     {
-        let src = field::address(p, s);
-        let passed = src.passed;
-        let src_address = src.address;
-        let dst = field::address(passed, s);
-        let passed = dst.passed;
-        let dst_address = dst.address;
+        let address = field::address(p, s);
+        let passed = address.passed;
+        let src_address = address.address;
+        let address = field::address(passed, s);
+        let passed = address.passed;
+        let dst_address = address.address;
         match passed {
             Passed::Stop(r) => ExtendedNat {
                 outcome: r,
@@ -321,7 +288,7 @@ impl ExtendedNat {
     }
 }
 
-// Format 1012: the VLAN tags that a packet was stripped of.
+// Format 1012: the VLAN tags that were taken off, each with its TPID above its TCI.
 #[repr(C)]
 pub struct ExtendedVlanTunnel {
     pub outcome: Outcome,
@@ -333,9 +300,9 @@ impl ExtendedVlanTunnel {
         requires { ⌜ Within (now s) p ⌝ }
         ensures { λ r. ⌜ Answers (layout-of 2 1012) (now (s .entry)) p (r .outcome) (extended-vlan-tunnel r) ⌝ }
     {
-        let tags = field::range(p, s, Counted::List);
-        let passed = tags.passed;
-        let stack = tags.span;
+        let list = field::range(p, s, Counted::List);
+        let passed = list.passed;
+        let stack = list.span;
         match passed {
             Passed::Stop(r) => ExtendedVlanTunnel {
                 outcome: r,

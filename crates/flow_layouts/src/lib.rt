@@ -2,5 +2,6 @@
 pub mod data;
 pub mod extended;
 pub mod mpls;
+pub mod parts;
 pub mod sampled;
 pub mod wireless;

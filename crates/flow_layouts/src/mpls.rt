@@ -1,8 +1,5 @@
+// Made by layouts/make from layouts/table.
 // MPLS: the labels of a packet, and the path that it takes.
-ghost use mathlib.Core.Path.{_≡_};
-ghost use mathlib.Core.List.{[], _∷_};
-ghost use Rattle.reading.specs.Layout.{addr, list};
-ghost use Rattle.reading.specs.Values.{zeros};
 ghost use Rattle.reading.specs.Answer.{layout-of};
 ghost use Rattle.xdr.specs.Shown.{Answers};
 ghost use Rattle.layout.specs.Chain.{Within};
@@ -14,7 +11,7 @@ use xdr::Outcome;
 use xdr::Passed;
 use xdr::Span;
 
-// Format 1006: the label stacks of a packet as it came and as it left.
+// Format 1006: the MPLS label stacks of a packet.
 #[repr(C)]
 pub struct ExtendedMpls {
     pub outcome: Outcome,
@@ -24,35 +21,29 @@ pub struct ExtendedMpls {
 }
 
 impl ExtendedMpls {
-    fn none(r: Outcome) -> ExtendedMpls
-        ensures { λ a. ⌜ (a .outcome ≡ r) × (extended-mpls a ≡ zeros (addr ∷ list ∷ list ∷ [])) ⌝ }
-    {
-        ExtendedMpls {
-            outcome: r,
-            next_hop: Address {
-                kind: 0,
-                bytes: [0u8; 16],
-            },
-            in_stack: Span { start: 0, count: 0 },
-            out_stack: Span { start: 0, count: 0 },
-        }
-    }
-
     pub fn parse(p: Passed, s: &[u8]) -> ExtendedMpls
         requires { ⌜ Within (now s) p ⌝ }
         ensures { λ r. ⌜ Answers (layout-of 2 1006) (now (s .entry)) p (r .outcome) (extended-mpls r) ⌝ }
     {
-        let hop = field::address(p, s);
-        let passed = hop.passed;
-        let next_hop = hop.address;
-        let came = field::range(passed, s, Counted::List);
-        let passed = came.passed;
-        let in_stack = came.span;
-        let left = field::range(passed, s, Counted::List);
-        let passed = left.passed;
-        let out_stack = left.span;
+        let address = field::address(p, s);
+        let passed = address.passed;
+        let next_hop = address.address;
+        let list = field::range(passed, s, Counted::List);
+        let passed = list.passed;
+        let in_stack = list.span;
+        let list = field::range(passed, s, Counted::List);
+        let passed = list.passed;
+        let out_stack = list.span;
         match passed {
-            Passed::Stop(r) => ExtendedMpls::none(r),
+            Passed::Stop(r) => ExtendedMpls {
+                outcome: r,
+                next_hop: Address {
+                    kind: 0,
+                    bytes: [0u8; 16],
+                },
+                in_stack: Span { start: 0, count: 0 },
+                out_stack: Span { start: 0, count: 0 },
+            },
             Passed::Got(d) => ExtendedMpls {
                 outcome: d.accepted(),
                 next_hop: next_hop,
@@ -63,7 +54,7 @@ impl ExtendedMpls {
     }
 }
 
-// Format 1008: the tunnel.
+// Format 1008: the MPLS tunnel.
 #[repr(C)]
 pub struct ExtendedMplsTunnel {
     pub outcome: Outcome,
@@ -77,9 +68,9 @@ impl ExtendedMplsTunnel {
         requires { ⌜ Within (now s) p ⌝ }
         ensures { λ r. ⌜ Answers (layout-of 2 1008) (now (s .entry)) p (r .outcome) (extended-mpls-tunnel r) ⌝ }
     {
-        let name = field::text(p, s);
-        let passed = name.passed;
-        let tunnel_lsp_name = name.span;
+        let text = field::text(p, s);
+        let passed = text.passed;
+        let tunnel_lsp_name = text.span;
         let row = field::words(passed, s, 2);
         let passed = row.passed;
         match passed {
@@ -102,7 +93,7 @@ impl ExtendedMplsTunnel {
     }
 }
 
-// Format 1009: the virtual circuit.
+// Format 1009: the MPLS virtual circuit.
 #[repr(C)]
 pub struct ExtendedMplsVc {
     pub outcome: Outcome,
@@ -117,9 +108,9 @@ impl ExtendedMplsVc {
         requires { ⌜ Within (now s) p ⌝ }
         ensures { λ r. ⌜ Answers (layout-of 2 1009) (now (s .entry)) p (r .outcome) (extended-mpls-vc r) ⌝ }
     {
-        let name = field::text(p, s);
-        let passed = name.passed;
-        let vc_instance_name = name.span;
+        let text = field::text(p, s);
+        let passed = text.passed;
+        let vc_instance_name = text.span;
         let row = field::words(passed, s, 3);
         let passed = row.passed;
         match passed {
@@ -157,11 +148,12 @@ impl ExtendedMplsFec {
         requires { ⌜ Within (now s) p ⌝ }
         ensures { λ r. ⌜ Answers (layout-of 2 1010) (now (s .entry)) p (r .outcome) (extended-mpls-fec r) ⌝ }
     {
-        let prefix = field::address(p, s);
-        let passed = prefix.passed;
-        let fec_addr_prefix = prefix.address;
-        let size = field::word(passed, s);
-        let passed = size.passed;
+        let address = field::address(p, s);
+        let passed = address.passed;
+        let fec_addr_prefix = address.address;
+        let word = field::word(passed, s);
+        let passed = word.passed;
+        let fec_prefix_len = word.value;
         match passed {
             Passed::Stop(r) => ExtendedMplsFec {
                 outcome: r,
@@ -174,7 +166,7 @@ impl ExtendedMplsFec {
             Passed::Got(d) => ExtendedMplsFec {
                 outcome: d.accepted(),
                 fec_addr_prefix: fec_addr_prefix,
-                fec_prefix_len: size.value,
+                fec_prefix_len: fec_prefix_len,
             },
         }
     }
@@ -192,20 +184,18 @@ impl ExtendedMplsLvpFec {
         requires { ⌜ Within (now s) p ⌝ }
         ensures { λ r. ⌜ Answers (layout-of 2 1011) (now (s .entry)) p (r .outcome) (extended-mpls-lvp-fec r) ⌝ }
     {
-        let row = field::words(p, s, 1);
-        let passed = row.passed;
+        let word = field::word(p, s);
+        let passed = word.passed;
+        let mpls_fec_addr_prefix_length = word.value;
         match passed {
             Passed::Stop(r) => ExtendedMplsLvpFec {
                 outcome: r,
                 mpls_fec_addr_prefix_length: 0,
             },
-            Passed::Got(d) => {
-                let words = field::load_words(s, row.at, 1);
-                ExtendedMplsLvpFec {
-                    outcome: d.accepted(),
-                    mpls_fec_addr_prefix_length: words[0],
-                }
-            }
+            Passed::Got(d) => ExtendedMplsLvpFec {
+                outcome: d.accepted(),
+                mpls_fec_addr_prefix_length: mpls_fec_addr_prefix_length,
+            },
         }
     }
 }

@@ -1,3 +1,4 @@
+// Made by layouts/make from layouts/table.
 // What was sampled: the packet's first bytes, or the fields of its header.
 ghost use mathlib.Core.Path.{_≡_};
 ghost use mathlib.Core.List.{_∷_, _++_};
@@ -28,8 +29,9 @@ impl SampledHeader {
         requires { ⌜ Within (now s) p ⌝ }
         ensures { λ r. ⌜ Answers (layout-of 2 1) (now (s .entry)) p (r .outcome) (sampled-header r) ⌝ }
     {
-        let kind = field::protocol(p, s);
-        let passed = kind.passed;
+        let word = field::protocol(p, s);
+        let passed = word.passed;
+        let protocol = word.value;
         let row = field::words(passed, s, 2);
         let passed = row.passed;
         let bytes = field::opaque(passed, s);
@@ -44,12 +46,12 @@ impl SampledHeader {
                 header: Span { start: 0, count: 0 },
             },
             Passed::Got(d) => {
-                let sizes = field::load_words(s, row.at, 2);
+                let words = field::load_words(s, row.at, 2);
                 SampledHeader {
                     outcome: d.accepted(),
-                    protocol: kind.value,
-                    frame_length: sizes[0],
-                    stripped: sizes[1],
+                    protocol: protocol,
+                    frame_length: words[0],
+                    stripped: words[1],
                     header: header,
                 }
             }
@@ -72,16 +74,18 @@ impl SampledEthernet {
         requires { ⌜ Within (now s) p ⌝ }
         ensures { λ r. ⌜ Answers (layout-of 2 2) (now (s .entry)) p (r .outcome) (sampled-ethernet r) ⌝ }
     {
-        let size = field::word(p, s);
-        let passed = size.passed;
-        let src = field::six(passed, s, false);
-        let passed = src.passed;
-        let src_mac = src.bytes;
-        let dst = field::six(passed, s, false);
-        let passed = dst.passed;
-        let dst_mac = dst.bytes;
-        let kind = field::word(passed, s);
-        let passed = kind.passed;
+        let word = field::word(p, s);
+        let passed = word.passed;
+        let length = word.value;
+        let mac = field::six(passed, s, false);
+        let passed = mac.passed;
+        let src_mac = mac.bytes;
+        let mac = field::six(passed, s, false);
+        let passed = mac.passed;
+        let dst_mac = mac.bytes;
+        let word = field::word(passed, s);
+        let passed = word.passed;
+        let eth_type = word.value;
         match passed {
             Passed::Stop(r) => SampledEthernet {
                 outcome: r,
@@ -92,16 +96,16 @@ impl SampledEthernet {
             },
             Passed::Got(d) => SampledEthernet {
                 outcome: d.accepted(),
-                length: size.value,
+                length: length,
                 src_mac: src_mac,
                 dst_mac: dst_mac,
-                eth_type: kind.value,
+                eth_type: eth_type,
             },
         }
     }
 }
 
-// Format 3: an IPv4 packet.
+// Format 3: an IPv4 packet. An address is its four bytes as one number, the first of them uppermost.
 #[repr(C)]
 pub struct SampledIpv4 {
     pub outcome: Outcome,
@@ -187,32 +191,31 @@ impl SampledIpv6 {
         requires { ⌜ Within (now s) p ⌝ }
         ensures { λ r. ⌜ Answers (layout-of 2 4) (now (s .entry)) p (r .outcome) (sampled-ipv6 r) ⌝ }
     {
-        let row = field::words(p, s, 2);
-        let passed = row.passed;
-        let head_at = row.at;
-        let src = field::sixteen(passed, s);
-        let passed = src.passed;
-        let src_ip = src.bytes;
-        let dst = field::sixteen(passed, s);
-        let passed = dst.passed;
-        let dst_ip = dst.bytes;
-        let row = field::words(passed, s, 4);
-        let passed = row.passed;
+        let first = field::words(p, s, 2);
+        let passed = first.passed;
+        let block = field::sixteen(passed, s);
+        let passed = block.passed;
+        let src_ip = block.bytes;
+        let block = field::sixteen(passed, s);
+        let passed = block.passed;
+        let dst_ip = block.bytes;
+        let second = field::words(passed, s, 4);
+        let passed = second.passed;
         match passed {
             Passed::Stop(r) => SampledIpv6::none(r),
             Passed::Got(d) => {
-                let head = field::load_words(s, head_at, 2);
-                let tail = field::load_words(s, row.at, 4);
+                let first_words = field::load_words(s, first.at, 2);
+                let second_words = field::load_words(s, second.at, 4);
                 SampledIpv6 {
                     outcome: d.accepted(),
-                    length: head[0],
-                    protocol: head[1],
+                    length: first_words[0],
+                    protocol: first_words[1],
                     src_ip: src_ip,
                     dst_ip: dst_ip,
-                    src_port: tail[0],
-                    dst_port: tail[1],
-                    tcp_flags: tail[2],
-                    priority: tail[3],
+                    src_port: second_words[0],
+                    dst_port: second_words[1],
+                    tcp_flags: second_words[2],
+                    priority: second_words[3],
                 }
             }
         }

@@ -1,3 +1,4 @@
+-- Made by layouts/make from layouts/table.
 use Rattle.reading.specs.Layout.{flows}
 use Rattle.reading.specs.Answer.{layout-of}
 use Rattle.layout.proofs.Chain.{steps, rows}
@@ -10,11 +11,10 @@ parse-spec =
     tie.close
     (tie.spec
     (λ c κs. search steps)  -- word-requires
-    (λ c κs. search steps)  -- range-requires
+    (λ c κs. search steps)  -- text-requires
     (λ c κs. search steps)  -- word-requires-2
-    (λ c κs. search steps)  -- range-requires-2
+    (λ c κs. search steps)  -- text-requires-2
     (λ c. search steps)  -- enum-known-passed
-    (λ c κs. search steps)  -- none-requires
     (λ c. search steps)  -- enum-known-passed-2
     (λ c κs. search steps)  -- accepted-requires
     (λ c. search rows)  -- returns

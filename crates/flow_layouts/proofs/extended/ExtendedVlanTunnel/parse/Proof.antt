@@ -1,3 +1,4 @@
+-- Made by layouts/make from layouts/table.
 use Rattle.reading.specs.Layout.{flows}
 use Rattle.reading.specs.Answer.{layout-of}
 use Rattle.layout.proofs.Chain.{steps, rows}
@@ -7,7 +8,8 @@ use Rattle.flow_layouts.proofs.extended.ExtendedVlanTunnel.parse.Tie as
 pub parse-spec : {M : Type 1} → statement M
 unfolding layout-of flows
 parse-spec =
-    tie.close (tie.spec
+    tie.close
+    (tie.spec
     (λ c κs. search steps)  -- range-requires
     (λ c. search steps)  -- enum-known-passed
     (λ c. search steps)  -- enum-known-passed-2

@@ -1,3 +1,4 @@
+-- Made by layouts/make from layouts/table.
 use Rattle.reading.specs.Layout.{flows}
 use Rattle.reading.specs.Answer.{layout-of}
 use Rattle.layout.proofs.Chain.{steps, rows}
@@ -13,7 +14,6 @@ parse-spec =
     (λ c κs. search steps)  -- range-requires
     (λ c κs. search steps)  -- range-requires-2
     (λ c. search steps)  -- enum-known-passed
-    (λ c κs. search steps)  -- none-requires
     (λ c. search steps)  -- enum-known-passed-2
     (λ c κs. search steps)  -- accepted-requires
     (λ c. search rows)  -- returns

@@ -1,19 +1,19 @@
+-- Made by layouts/make from layouts/table.
 use Rattle.reading.specs.Layout.{flows}
 use Rattle.reading.specs.Answer.{layout-of}
-use Rattle.layout.proofs.Chain.{steps, places, rows}
+use Rattle.layout.proofs.Chain.{steps, rows}
 use Rattle.flow_layouts.proofs.mpls.ExtendedMplsLvpFec.parse.Statement.{statement}
 use Rattle.flow_layouts.proofs.mpls.ExtendedMplsLvpFec.parse.Tie as tie
 
 pub parse-spec : {M : Type 1} → statement M
 unfolding layout-of flows
 parse-spec =
-    tie.close (tie.spec
-    (λ c κs. search steps)  -- row-requires
+    tie.close
+    (tie.spec
+    (λ c κs. search steps)  -- word-requires
     (λ c. search steps)  -- enum-known-passed
     (λ c. search steps)  -- enum-known-passed-2
-    (λ c κs. search places)  -- load-words-requires
     (λ c κs. search steps)  -- accepted-requires
-    (λ c. search steps)  -- array-read
     (λ c. search rows)  -- returns
     (λ c. search rows)  -- returns-2
     )

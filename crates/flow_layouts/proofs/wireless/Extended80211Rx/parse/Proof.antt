@@ -1,3 +1,4 @@
+-- Made by layouts/make from layouts/table.
 use Rattle.reading.specs.Layout.{flows}
 use Rattle.reading.specs.Answer.{layout-of}
 use Rattle.layout.proofs.Chain.{steps, places, rows}
@@ -10,18 +11,20 @@ parse-spec =
     tie.close
     (tie.spec
     (λ c κs. search steps)  -- parse-requires
-    (λ c κs. search steps)  -- long-requires
     (λ c κs. search steps)  -- words-requires
+    (λ c κs. search steps)  -- long-requires
+    (λ c κs. search steps)  -- words-requires-2
     (λ c. search steps)  -- enum-known-passed
     (λ c κs. search steps)  -- none-requires
     (λ c. search steps)  -- enum-known-passed-2
     (λ c κs. search places)  -- load-words-requires
+    (λ c κs. search places)  -- load-words-requires-2
     (λ c κs. search steps)  -- accepted-requires
-    (λ c. search steps)  -- array-read-t20
-    (λ c. search steps)  -- array-read-t23
-    (λ c. search steps)  -- array-read-t26
-    (λ c. search steps)  -- array-read-t29
-    (λ c. search steps)  -- array-read-t32
+    (λ c. search steps)  -- array-read
+    (λ c. search steps)  -- array-read-2
+    (λ c. search steps)  -- array-read-3
+    (λ c. search steps)  -- array-read-4
+    (λ c. search steps)  -- array-read-5
     (λ c. search rows)  -- returns
     (λ c. search rows)  -- returns-2
     )

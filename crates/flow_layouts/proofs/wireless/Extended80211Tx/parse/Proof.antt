@@ -1,6 +1,7 @@
+-- Made by layouts/make from layouts/table.
 use Rattle.reading.specs.Layout.{flows}
 use Rattle.reading.specs.Answer.{layout-of}
-use Rattle.layout.proofs.Chain.{steps, rows}
+use Rattle.layout.proofs.Chain.{steps, places, rows}
 use Rattle.flow_layouts.proofs.wireless.Extended80211Tx.parse.Statement.{statement}
 use Rattle.flow_layouts.proofs.wireless.Extended80211Tx.parse.Tie as tie
 
@@ -10,17 +11,19 @@ parse-spec =
     tie.close
     (tie.spec
     (λ c κs. search steps)  -- parse-requires
+    (λ c κs. search steps)  -- words-requires
     (λ c κs. search steps)  -- long-requires
     (λ c κs. search steps)  -- word-requires
     (λ c. search steps)  -- enum-known-passed
     (λ c κs. search steps)  -- none-requires
     (λ c. search steps)  -- enum-known-passed-2
+    (λ c κs. search places)  -- load-words-requires
     (λ c κs. search steps)  -- accepted-requires
-    (λ c. search steps)  -- array-read-t18
-    (λ c. search steps)  -- array-read-t21
-    (λ c. search steps)  -- array-read-t24
-    (λ c. search steps)  -- array-read-t27
-    (λ c. search steps)  -- array-read-t30
+    (λ c. search steps)  -- array-read
+    (λ c. search steps)  -- array-read-2
+    (λ c. search steps)  -- array-read-3
+    (λ c. search steps)  -- array-read-4
+    (λ c. search steps)  -- array-read-5
     (λ c. search rows)  -- returns
     (λ c. search rows)  -- returns-2
     )
