@@ -1,3 +1,4 @@
+-- Made by layouts/make from layouts/table.
 -- What is shown of a result of field reading loses nothing: the outcome and each field are got back from it. Assumes nothing.
 use mathlib.Core.Path.{refl}
 use Rattle.reading.specs.Answer.{Fields}

@@ -1,4 +1,5 @@
-// What is known of a packet beside its bytes: formats 1001 to 1005, 1007 and 1012.
+// Made by layouts/make from layouts/table.
+// What a switch, a router or a server adds to a sampled packet.
 ghost use mathlib.Core.Path.{_≡_};
 ghost use Rattle.xdr.specs.Shown.{answer-of};
 ghost use Rattle.flow_layouts.specs.Shown.{extended-switch, extended-router, extended-gateway, extended-user, extended-url, extended-nat, extended-vlan-tunnel};

@@ -1,4 +1,5 @@
-// The header of a datagram, and the fields of a sample before its records.
+// Made by layouts/make from layouts/table.
+// Heads: the fields of a datagram or of a sample, before what it holds.
 ghost use mathlib.Core.Path.{_≡_};
 ghost use Rattle.xdr.specs.Shown.{answer-of};
 ghost use Rattle.datagram.specs.Shown.{header-fields};

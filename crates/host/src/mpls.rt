@@ -1,4 +1,5 @@
-// MPLS: formats 1006 and 1008 to 1011.
+// Made by layouts/make from layouts/table.
+// MPLS: the labels of a packet, and the path that it takes.
 ghost use mathlib.Core.Path.{_≡_};
 ghost use Rattle.xdr.specs.Shown.{answer-of};
 ghost use Rattle.flow_layouts.specs.Shown.{extended-mpls, extended-mpls-tunnel, extended-mpls-vc, extended-mpls-fec, extended-mpls-lvp-fec};

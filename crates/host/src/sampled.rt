@@ -1,4 +1,5 @@
-// What was sampled: formats 1 to 4.
+// Made by layouts/make from layouts/table.
+// What was sampled: the packet's first bytes, or the fields of its header.
 ghost use mathlib.Core.Path.{_≡_};
 ghost use Rattle.xdr.specs.Shown.{answer-of};
 ghost use Rattle.flow_layouts.specs.Shown.{sampled-header, sampled-ethernet, sampled-ipv4, sampled-ipv6};

@@ -1,4 +1,5 @@
-// 802.11: formats 1013 to 1016.
+// Made by layouts/make from layouts/table.
+// 802.11: what was sent or received by radio.
 ghost use mathlib.Core.Path.{_≡_};
 ghost use Rattle.xdr.specs.Shown.{answer-of};
 ghost use Rattle.flow_layouts.specs.Shown.{extended-80211-payload, extended-80211-rx, extended-80211-tx, extended-80211-aggregation};

@@ -1,3 +1,4 @@
+-- Made by layouts/make from layouts/table.
 use Rattle.fields.proofs.Asking.{asked}
 use Rattle.host.proofs.extended.latchplume_read_extended_switch.Statement.{statement}
 use Rattle.host.proofs.extended.latchplume_read_extended_switch.Tie as tie

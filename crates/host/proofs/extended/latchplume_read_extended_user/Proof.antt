@@ -1,3 +1,4 @@
+-- Made by layouts/make from layouts/table.
 use Rattle.fields.proofs.Asking.{asked}
 use Rattle.host.proofs.extended.latchplume_read_extended_user.Statement.{statement}
 use Rattle.host.proofs.extended.latchplume_read_extended_user.Tie as tie

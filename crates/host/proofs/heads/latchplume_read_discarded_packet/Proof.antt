@@ -1,3 +1,4 @@
+-- Made by layouts/make from layouts/table.
 use Rattle.fields.proofs.Asking.{asked}
 use Rattle.host.proofs.heads.latchplume_read_discarded_packet.Statement.{statement}
 use Rattle.host.proofs.heads.latchplume_read_discarded_packet.Tie as tie

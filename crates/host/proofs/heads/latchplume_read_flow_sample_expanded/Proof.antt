@@ -1,3 +1,4 @@
+-- Made by layouts/make from layouts/table.
 use Rattle.fields.proofs.Asking.{asked}
 use Rattle.host.proofs.heads.latchplume_read_flow_sample_expanded.Statement.{statement}
 use Rattle.host.proofs.heads.latchplume_read_flow_sample_expanded.Tie as tie

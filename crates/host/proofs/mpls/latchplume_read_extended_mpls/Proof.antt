@@ -1,3 +1,4 @@
+-- Made by layouts/make from layouts/table.
 use Rattle.fields.proofs.Asking.{asked}
 use Rattle.host.proofs.mpls.latchplume_read_extended_mpls.Statement.{statement}
 use Rattle.host.proofs.mpls.latchplume_read_extended_mpls.Tie as tie

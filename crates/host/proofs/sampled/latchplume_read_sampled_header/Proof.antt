@@ -1,3 +1,4 @@
+-- Made by layouts/make from layouts/table.
 use Rattle.fields.proofs.Asking.{asked}
 use Rattle.host.proofs.sampled.latchplume_read_sampled_header.Statement.{statement}
 use Rattle.host.proofs.sampled.latchplume_read_sampled_header.Tie as tie

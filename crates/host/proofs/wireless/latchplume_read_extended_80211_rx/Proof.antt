@@ -1,3 +1,4 @@
+-- Made by layouts/make from layouts/table.
 use Rattle.fields.proofs.Asking.{asked}
 use Rattle.host.proofs.wireless.latchplume_read_extended_80211_rx.Statement.{statement}
 use Rattle.host.proofs.wireless.latchplume_read_extended_80211_rx.Tie as tie
