@@ -7,8 +7,8 @@ use native.Mathlib.Omega.{arith}
 use lib.Dec.{leb}
 use Rattle.reading.specs.Sizes.{depth-limit}
 use Rattle.reading.specs.Layout.{opened, samples}
-use Rattle.samples.specs.declared.heads.SampleKind.{SampleKind}
-use Rattle.samples.specs.declared.heads.SampleKind.the-variants as kind
+use Rattle.samples.specs.declared.kinds.SampleKind.{SampleKind}
+use Rattle.samples.specs.declared.kinds.SampleKind.the-variants as kind
 use Rattle.samples.specs.Held.{held, words-of, eight-of, Is-kind}
 
 pub is-kind : (k : ℕ) {f : ℕ} {r : SampleKind} → f ≡ k → opened (samples depth-limit) k ≡ held r → leb 1 (words-of r) ≡ true → leb (words-of r) 11 ≡ true → leb (eight-of r) (words-of r) ≡ true → Is-kind r f

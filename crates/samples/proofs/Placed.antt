@@ -20,8 +20,8 @@ use Rattle.flows.specs.Passing.{Flat-of}
 use Rattle.store.proofs.Placing as placing
 use Rattle.flows.proofs.Placing as records
 use Rattle.store.proofs.Placing.{a-put, word-is, store-is}
-use Rattle.samples.specs.declared.heads.SampleKind.{SampleKind}
-use Rattle.samples.specs.declared.heads.SampleKind.the-variants as kind
+use Rattle.samples.specs.declared.kinds.SampleKind.{SampleKind}
+use Rattle.samples.specs.declared.kinds.SampleKind.the-variants as kind
 use Rattle.samples.specs.Held.{counted-by-last, held, words-of, Is-kind}
 use Rattle.samples.proofs.Sampling.{flows-words, counters-words, last-of}
 

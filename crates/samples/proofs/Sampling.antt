@@ -34,8 +34,8 @@ use Rattle.flows.specs.Passing.{Ahead-of}
 use Rattle.layout.specs.Chain.{Then, goes, halts, Ends, ends, There}
 use Rattle.layout.proofs.Chain.{both, within-start, within-ends}
 use Rattle.layout.proofs.Scan.{scan-inside, scan-short, Thrift, scan-on, scan-done, scan-turn, scan-stop, frame-ends, frame-fits, frame-part, frame-counts, frame-scan}
-use Rattle.samples.specs.declared.heads.SampleKind.{SampleKind}
-use Rattle.samples.specs.declared.heads.SampleKind.the-variants as kind
+use Rattle.samples.specs.declared.kinds.SampleKind.{SampleKind}
+use Rattle.samples.specs.declared.kinds.SampleKind.the-variants as kind
 use Rattle.samples.specs.Held.{counted-by-last, held, words-of, Is-kind, Counted, on, over, Has-last, rest-of}
 
 pub counter-thrift : Thrift counter

@@ -15,8 +15,8 @@ use Rattle.xdr.specs.declared.Passed.the-variants as passed
 use Rattle.xdr.specs.Shown.{place, refusal}
 use Rattle.layout.specs.Chain.{Sure}
 use Rattle.layout.specs.Scanned.{Scan}
-use Rattle.samples.specs.declared.heads.SampleKind.{SampleKind}
-use Rattle.samples.specs.declared.heads.SampleKind.the-variants as kind
+use Rattle.samples.specs.declared.kinds.SampleKind.{SampleKind}
+use Rattle.samples.specs.declared.kinds.SampleKind.the-variants as kind
 
 -- ---- what a sample holds
 

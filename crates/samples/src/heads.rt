@@ -1,62 +1,21 @@
-// The fields of a sample before its records: how many words they are, which is all that the framing needs of them, and a reader for each
-// format.
+// Made by layouts/make from layouts/table.
+// Heads: the fields of a datagram or of a sample, before what it holds.
 ghost use mathlib.Core.Path.{_≡_};
 ghost use Rattle.reading.specs.Layout.{words};
 ghost use Rattle.reading.specs.Values.{zeros};
 ghost use Rattle.reading.specs.Answer.{layout-of};
 ghost use Rattle.xdr.specs.Shown.{Answers};
 ghost use Rattle.layout.specs.Chain.{Within};
-ghost use Rattle.samples.specs.Held.{Is-kind};
 ghost use Rattle.samples.specs.Shown.{flow-sample, counters-sample, flow-sample-expanded, counters-sample-expanded, discarded-packet};
+use crate::kinds::DataSourceExpanded;
+use crate::kinds::InterfaceExpanded;
 use layout::field;
 use numbers::DataSource;
 use numbers::Interface;
 use xdr::Outcome;
 use xdr::Passed;
 
-// What a sample holds: so many words, of which the last counts the records behind them; or it stays raw.
-pub enum SampleKind {
-    Flows(u32),
-    Counters(u32),
-    Raw,
-}
-
-// Format 1 is asked for first, since most samples are of it; and by comparisons, so that the compiler makes no table of jumps.
-pub fn kind_of(format: u32) -> SampleKind
-    ensures { λ r. ⌜ Is-kind r format ⌝ }
-{
-    if format == 1 {
-        return SampleKind::Flows(8);
-    }
-    if format < 3 {
-        if format == 2 {
-            return SampleKind::Counters(3);
-        }
-        return SampleKind::Raw;
-    }
-    match format {
-        3 => SampleKind::Flows(11),
-        4 => SampleKind::Counters(4),
-        5 => SampleKind::Flows(8),
-        _ => SampleKind::Raw,
-    }
-}
-
-// A source whose type and index have a word each.
-#[repr(C)]
-pub struct DataSourceExpanded {
-    pub source_id_type: u32,
-    pub source_id_index: u32,
-}
-
-// An interface whose format and value have a word each.
-#[repr(C)]
-pub struct InterfaceExpanded {
-    pub format: u32,
-    pub value: u32,
-}
-
-// Format 1: packets sampled from a source.
+// Format 1: a packet sampled from a source.
 #[repr(C)]
 pub struct FlowSample {
     pub outcome: Outcome,
@@ -143,7 +102,7 @@ impl CountersSample {
     }
 }
 
-// Format 3: as format 1, with two words each for the source and the interfaces.
+// Format 3: as 1, with two words each for the source and the interfaces.
 #[repr(C)]
 pub struct FlowSampleExpanded {
     pub outcome: Outcome,
@@ -218,7 +177,7 @@ impl FlowSampleExpanded {
     }
 }
 
-// Format 4: as format 2, with two words for the source.
+// Format 4: as 2, with two words for the source.
 #[repr(C)]
 pub struct CountersSampleExpanded {
     pub outcome: Outcome,
@@ -260,7 +219,7 @@ impl CountersSampleExpanded {
     }
 }
 
-// Format 5: packets that were discarded. Its interfaces are plain indices, as the crate has them.
+// Format 5: a packet that was discarded, and why.
 #[repr(C)]
 pub struct DiscardedPacket {
     pub outcome: Outcome,

@@ -1,3 +1,4 @@
+-- Made by layouts/make from layouts/table.
 use Rattle.reading.specs.Layout.{samples}
 use Rattle.reading.specs.Answer.{layout-of}
 use Rattle.layout.proofs.Chain.{steps, places, rows}
@@ -9,14 +10,14 @@ unfolding layout-of samples
 parse-spec =
     tie.close
     (tie.spec
-    (λ c κs. search steps)  -- row-requires
+    (λ c κs. search steps)  -- words-requires
     (λ c. search steps)  -- enum-known-passed
     (λ c. search steps)  -- enum-known-passed-2
     (λ c κs. search places)  -- load-words-requires
     (λ c κs. search steps)  -- accepted-requires
-    (λ c. search steps)  -- array-read-t15
-    (λ c. search steps)  -- array-read-t18
-    (λ c. search steps)  -- array-read-t22
+    (λ c. search steps)  -- array-read
+    (λ c. search steps)  -- array-read-2
+    (λ c. search steps)  -- array-read-3
     (λ c. search rows)  -- returns
     (λ c. search rows)  -- returns-2
     )

@@ -1,7 +1,7 @@
 use Rattle.reading.specs.Layout.{opened, samples}
 use Rattle.samples.proofs.Formats.{is-kind, low-raw, high-raw}
-use Rattle.samples.proofs.heads.kind_of.Statement.{statement}
-use Rattle.samples.proofs.heads.kind_of.Tie as tie
+use Rattle.samples.proofs.kinds.kind_of.Statement.{statement}
+use Rattle.samples.proofs.kinds.kind_of.Tie as tie
 
 pub kind-of-spec : {M : Type 1} → statement M
 unfolding opened samples
