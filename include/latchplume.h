@@ -233,15 +233,16 @@ typedef struct latchplume_span {
     size_t count;
 } latchplume_span;
 
+/* made by layouts/make from layouts/table: from here */
 /* The header of a datagram: kind 0. */
 typedef struct latchplume_header {
     latchplume_outcome outcome;
-    uint32_t version;
-    latchplume_address agent_address;
-    uint32_t sub_agent_id;
-    uint32_t sequence_number;
-    uint32_t uptime; /* milliseconds */
-    uint32_t num_samples;
+    uint32_t version;                 /* version of the datagram */
+    latchplume_address agent_address; /* IP address of the sampling agent */
+    uint32_t sub_agent_id;            /* distinguishes the datagram streams of a device */
+    uint32_t sequence_number;         /* counts the datagrams of this sub-agent */
+    uint32_t uptime;                  /* milliseconds since the device last booted */
+    uint32_t num_samples;             /* how many samples follow */
 } latchplume_header;
 
 latchplume_header latchplume_read_header(const uint8_t *data, size_t length, const uint32_t descriptor[LATCHPLUME_DESCRIPTOR_WORDS]);
@@ -251,14 +252,14 @@ latchplume_header latchplume_read_header(const uint8_t *data, size_t length, con
 /* Format 1: a packet sampled from a source. */
 typedef struct latchplume_flow_sample {
     latchplume_outcome outcome;
-    uint32_t sequence_number;
-    latchplume_data_source source_id;
-    uint32_t sampling_rate;
-    uint32_t sample_pool;
-    uint32_t drops;
-    latchplume_interface input;
-    latchplume_interface output;
-    uint32_t num_records;
+    uint32_t sequence_number;         /* counts the flow samples of this sFlow instance */
+    latchplume_data_source source_id; /* the source that was sampled */
+    uint32_t sampling_rate;           /* one packet in so many is sampled */
+    uint32_t sample_pool;             /* packets that could have been sampled */
+    uint32_t drops;                   /* samples that were lost for lack of resources */
+    latchplume_interface input;       /* interface that the packet came in by */
+    latchplume_interface output;      /* interface that it went out by */
+    uint32_t num_records;             /* how many flow records follow */
 } latchplume_flow_sample;
 
 latchplume_flow_sample latchplume_read_flow_sample(
@@ -267,9 +268,9 @@ latchplume_flow_sample latchplume_read_flow_sample(
 /* Format 2: counters of a source. */
 typedef struct latchplume_counters_sample {
     latchplume_outcome outcome;
-    uint32_t sequence_number;
-    latchplume_data_source source_id;
-    uint32_t num_records;
+    uint32_t sequence_number;         /* counts the counter samples of this sFlow instance */
+    latchplume_data_source source_id; /* the source that was polled */
+    uint32_t num_records;             /* how many counter records follow */
 } latchplume_counters_sample;
 
 latchplume_counters_sample latchplume_read_counters_sample(
@@ -278,14 +279,14 @@ latchplume_counters_sample latchplume_read_counters_sample(
 /* Format 3: as 1, with two words each for the source and the interfaces. */
 typedef struct latchplume_flow_sample_expanded {
     latchplume_outcome outcome;
-    uint32_t sequence_number;
-    latchplume_data_source_expanded source_id;
-    uint32_t sampling_rate;
-    uint32_t sample_pool;
-    uint32_t drops;
-    latchplume_interface_expanded input;
-    latchplume_interface_expanded output;
-    uint32_t num_records;
+    uint32_t sequence_number;                  /* counts the flow samples of this sFlow instance */
+    latchplume_data_source_expanded source_id; /* the source that was sampled */
+    uint32_t sampling_rate;                    /* one packet in so many is sampled */
+    uint32_t sample_pool;                      /* packets that could have been sampled */
+    uint32_t drops;                            /* samples that were lost for lack of resources */
+    latchplume_interface_expanded input;       /* interface that the packet came in by */
+    latchplume_interface_expanded output;      /* interface that it went out by */
+    uint32_t num_records;                      /* how many flow records follow */
 } latchplume_flow_sample_expanded;
 
 latchplume_flow_sample_expanded latchplume_read_flow_sample_expanded(
@@ -294,9 +295,9 @@ latchplume_flow_sample_expanded latchplume_read_flow_sample_expanded(
 /* Format 4: as 2, with two words for the source. */
 typedef struct latchplume_counters_sample_expanded {
     latchplume_outcome outcome;
-    uint32_t sequence_number;
-    latchplume_data_source_expanded source_id;
-    uint32_t num_records;
+    uint32_t sequence_number;                  /* counts the counter samples of this sFlow instance */
+    latchplume_data_source_expanded source_id; /* the source that was polled */
+    uint32_t num_records;                      /* how many counter records follow */
 } latchplume_counters_sample_expanded;
 
 latchplume_counters_sample_expanded latchplume_read_counters_sample_expanded(
@@ -305,13 +306,13 @@ latchplume_counters_sample_expanded latchplume_read_counters_sample_expanded(
 /* Format 5: a packet that was discarded, and why. */
 typedef struct latchplume_discarded_packet {
     latchplume_outcome outcome;
-    uint32_t sequence_number;
-    latchplume_data_source_expanded source_id;
-    uint32_t drops;
-    uint32_t input_ifindex;
-    uint32_t output_ifindex;
-    uint32_t reason;
-    uint32_t num_records;
+    uint32_t sequence_number;                  /* counts the discarded packet records of this source */
+    latchplume_data_source_expanded source_id; /* the source that was watched */
+    uint32_t drops;                            /* records that were lost by the rate limit or for lack of resources */
+    uint32_t input_ifindex;                    /* ifIndex that the packet was received on; 0 if unknown */
+    uint32_t output_ifindex;                   /* ifIndex for egress drops; 0 otherwise */
+    uint32_t reason;                           /* reason for dropping the packet */
+    uint32_t num_records;                      /* how many flow records follow */
 } latchplume_discarded_packet;
 
 latchplume_discarded_packet latchplume_read_discarded_packet(
@@ -322,10 +323,10 @@ latchplume_discarded_packet latchplume_read_discarded_packet(
 /* Format 1: the packet's first bytes, by the protocol of its header. */
 typedef struct latchplume_sampled_header {
     latchplume_outcome outcome;
-    uint32_t protocol;
-    uint32_t frame_length;
-    uint32_t stripped;
-    latchplume_span header; /* bytes */
+    uint32_t protocol;      /* format of the sampled header */
+    uint32_t frame_length;  /* bytes of the packet before sampling */
+    uint32_t stripped;      /* bytes removed from the packet before sampling */
+    latchplume_span header; /* bytes: the packet's first bytes */
 } latchplume_sampled_header;
 
 latchplume_sampled_header latchplume_read_sampled_header(
@@ -334,10 +335,10 @@ latchplume_sampled_header latchplume_read_sampled_header(
 /* Format 2: an Ethernet frame. */
 typedef struct latchplume_sampled_ethernet {
     latchplume_outcome outcome;
-    uint32_t length;
-    uint8_t src_mac[6];
-    uint8_t dst_mac[6];
-    uint32_t eth_type;
+    uint32_t length;    /* bytes of the MAC packet, with its FCS */
+    uint8_t src_mac[6]; /* source MAC address */
+    uint8_t dst_mac[6]; /* destination MAC address */
+    uint32_t eth_type;  /* Ethernet packet type */
 } latchplume_sampled_ethernet;
 
 latchplume_sampled_ethernet latchplume_read_sampled_ethernet(
@@ -346,14 +347,14 @@ latchplume_sampled_ethernet latchplume_read_sampled_ethernet(
 /* Format 3: an IPv4 packet. An address is its four bytes as one number, the first of them uppermost. */
 typedef struct latchplume_sampled_ipv4 {
     latchplume_outcome outcome;
-    uint32_t length;
-    uint32_t protocol;
-    uint32_t src_ip;
-    uint32_t dst_ip;
-    uint32_t src_port;
-    uint32_t dst_port;
-    uint32_t tcp_flags;
-    uint32_t tos;
+    uint32_t length;    /* bytes of the IP packet */
+    uint32_t protocol;  /* IP protocol type: TCP is 6, UDP is 17 */
+    uint32_t src_ip;    /* source IP address */
+    uint32_t dst_ip;    /* destination IP address */
+    uint32_t src_port;  /* TCP/UDP source port number or equivalent */
+    uint32_t dst_port;  /* TCP/UDP destination port number or equivalent */
+    uint32_t tcp_flags; /* TCP flags */
+    uint32_t tos;       /* IP type of service */
 } latchplume_sampled_ipv4;
 
 latchplume_sampled_ipv4 latchplume_read_sampled_ipv4(
@@ -362,14 +363,14 @@ latchplume_sampled_ipv4 latchplume_read_sampled_ipv4(
 /* Format 4: an IPv6 packet. */
 typedef struct latchplume_sampled_ipv6 {
     latchplume_outcome outcome;
-    uint32_t length;
-    uint32_t protocol;
-    uint8_t src_ip[16];
-    uint8_t dst_ip[16];
-    uint32_t src_port;
-    uint32_t dst_port;
-    uint32_t tcp_flags;
-    uint32_t priority;
+    uint32_t length;    /* bytes of the IP packet */
+    uint32_t protocol;  /* IP next header: TCP is 6, UDP is 17 */
+    uint8_t src_ip[16]; /* source IP address */
+    uint8_t dst_ip[16]; /* destination IP address */
+    uint32_t src_port;  /* TCP/UDP source port number or equivalent */
+    uint32_t dst_port;  /* TCP/UDP destination port number or equivalent */
+    uint32_t tcp_flags; /* TCP flags */
+    uint32_t priority;  /* IP priority */
 } latchplume_sampled_ipv6;
 
 latchplume_sampled_ipv6 latchplume_read_sampled_ipv6(
@@ -378,10 +379,10 @@ latchplume_sampled_ipv6 latchplume_read_sampled_ipv6(
 /* Format 1001: the VLANs and priorities of a switched packet. */
 typedef struct latchplume_extended_switch {
     latchplume_outcome outcome;
-    uint32_t src_vlan;
-    uint32_t src_priority;
-    uint32_t dst_vlan;
-    uint32_t dst_priority;
+    uint32_t src_vlan;     /* 802.1Q VLAN of the incoming frame; 0xffffffff if unknown */
+    uint32_t src_priority; /* 802.1p priority of the incoming frame; 0xffffffff if unknown */
+    uint32_t dst_vlan;     /* 802.1Q VLAN of the outgoing frame; 0xffffffff if unknown */
+    uint32_t dst_priority; /* 802.1p priority of the outgoing frame; 0xffffffff if unknown */
 } latchplume_extended_switch;
 
 latchplume_extended_switch latchplume_read_extended_switch(
@@ -390,9 +391,9 @@ latchplume_extended_switch latchplume_read_extended_switch(
 /* Format 1002: the next hop of a routed packet, and the masks of its ends. */
 typedef struct latchplume_extended_router {
     latchplume_outcome outcome;
-    latchplume_address next_hop;
-    uint32_t src_mask_len;
-    uint32_t dst_mask_len;
+    latchplume_address next_hop; /* IP address of the immediate next hop router */
+    uint32_t src_mask_len;       /* bits of the source address prefix mask */
+    uint32_t dst_mask_len;       /* bits of the destination address prefix mask */
 } latchplume_extended_router;
 
 latchplume_extended_router latchplume_read_extended_router(
@@ -401,13 +402,13 @@ latchplume_extended_router latchplume_read_extended_router(
 /* Format 1003: the BGP route of a packet. */
 typedef struct latchplume_extended_gateway {
     latchplume_outcome outcome;
-    latchplume_address next_hop;
-    uint32_t as_number;
-    uint32_t src_as;
-    uint32_t src_peer_as;
-    latchplume_span dst_as_path; /* segments */
-    latchplume_span communities; /* a list */
-    uint32_t local_pref;
+    latchplume_address next_hop; /* IP address of the border router */
+    uint32_t as_number;          /* autonomous system number of the router */
+    uint32_t src_as;             /* autonomous system number of the source */
+    uint32_t src_peer_as;        /* autonomous system number of the source peer */
+    latchplume_span dst_as_path; /* segments: AS path to the destination */
+    latchplume_span communities; /* a list: communities associated with this route */
+    uint32_t local_pref;         /* LocalPref associated with this route */
 } latchplume_extended_gateway;
 
 latchplume_extended_gateway latchplume_read_extended_gateway(
@@ -416,10 +417,10 @@ latchplume_extended_gateway latchplume_read_extended_gateway(
 /* Format 1004: the users at both ends of a packet. */
 typedef struct latchplume_extended_user {
     latchplume_outcome outcome;
-    uint32_t src_charset;
-    latchplume_span src_user; /* a string */
-    uint32_t dst_charset;
-    latchplume_span dst_user; /* a string */
+    uint32_t src_charset;     /* character set of src_user, by its MIBEnum */
+    latchplume_span src_user; /* a string: user ID associated with the packet source */
+    uint32_t dst_charset;     /* character set of dst_user, by its MIBEnum */
+    latchplume_span dst_user; /* a string: user ID associated with the packet destination */
 } latchplume_extended_user;
 
 latchplume_extended_user latchplume_read_extended_user(
@@ -428,9 +429,9 @@ latchplume_extended_user latchplume_read_extended_user(
 /* Format 1005: an HTTP request; direction 1 is the source's, 2 the destination's. */
 typedef struct latchplume_extended_url {
     latchplume_outcome outcome;
-    uint32_t direction;
-    latchplume_span url;  /* a string */
-    latchplume_span host; /* a string */
+    uint32_t direction;   /* direction of the connection */
+    latchplume_span url;  /* a string: the HTTP request-line */
+    latchplume_span host; /* a string: the host field from the HTTP header */
 } latchplume_extended_url;
 
 latchplume_extended_url latchplume_read_extended_url(
@@ -439,9 +440,9 @@ latchplume_extended_url latchplume_read_extended_url(
 /* Format 1006: the MPLS label stacks of a packet. */
 typedef struct latchplume_extended_mpls {
     latchplume_outcome outcome;
-    latchplume_address next_hop;
-    latchplume_span in_stack;  /* a list */
-    latchplume_span out_stack; /* a list */
+    latchplume_address next_hop; /* IP address of the next hop */
+    latchplume_span in_stack;    /* a list: label stack of the received packet */
+    latchplume_span out_stack;   /* a list: label stack for the transmitted packet */
 } latchplume_extended_mpls;
 
 latchplume_extended_mpls latchplume_read_extended_mpls(
@@ -450,8 +451,8 @@ latchplume_extended_mpls latchplume_read_extended_mpls(
 /* Format 1007: a packet's addresses behind a translation. */
 typedef struct latchplume_extended_nat {
     latchplume_outcome outcome;
-    latchplume_address src_address;
-    latchplume_address dst_address;
+    latchplume_address src_address; /* source address */
+    latchplume_address dst_address; /* destination address */
 } latchplume_extended_nat;
 
 latchplume_extended_nat latchplume_read_extended_nat(
@@ -460,9 +461,9 @@ latchplume_extended_nat latchplume_read_extended_nat(
 /* Format 1008: the MPLS tunnel. */
 typedef struct latchplume_extended_mpls_tunnel {
     latchplume_outcome outcome;
-    latchplume_span tunnel_lsp_name; /* a string */
-    uint32_t tunnel_id;
-    uint32_t tunnel_cos;
+    latchplume_span tunnel_lsp_name; /* a string: tunnel name */
+    uint32_t tunnel_id;              /* tunnel ID */
+    uint32_t tunnel_cos;             /* tunnel COS value */
 } latchplume_extended_mpls_tunnel;
 
 latchplume_extended_mpls_tunnel latchplume_read_extended_mpls_tunnel(
@@ -471,10 +472,10 @@ latchplume_extended_mpls_tunnel latchplume_read_extended_mpls_tunnel(
 /* Format 1009: the MPLS virtual circuit. */
 typedef struct latchplume_extended_mpls_vc {
     latchplume_outcome outcome;
-    latchplume_span vc_instance_name; /* a string */
-    uint32_t vll_vc_id;
-    uint32_t vc_label;
-    uint32_t vc_cos;
+    latchplume_span vc_instance_name; /* a string: VC instance name */
+    uint32_t vll_vc_id;               /* VLL/VC instance ID */
+    uint32_t vc_label;                /* VC label */
+    uint32_t vc_cos;                  /* VC COS value */
 } latchplume_extended_mpls_vc;
 
 latchplume_extended_mpls_vc latchplume_read_extended_mpls_vc(
@@ -483,8 +484,8 @@ latchplume_extended_mpls_vc latchplume_read_extended_mpls_vc(
 /* Format 1010: the forwarding equivalence class, as an address prefix. */
 typedef struct latchplume_extended_mpls_fec {
     latchplume_outcome outcome;
-    latchplume_address fec_addr_prefix;
-    uint32_t fec_prefix_len;
+    latchplume_address fec_addr_prefix; /* FEC address prefix */
+    uint32_t fec_prefix_len;            /* bits of the prefix */
 } latchplume_extended_mpls_fec;
 
 latchplume_extended_mpls_fec latchplume_read_extended_mpls_fec(
@@ -493,7 +494,7 @@ latchplume_extended_mpls_fec latchplume_read_extended_mpls_fec(
 /* Format 1011: the forwarding equivalence class, as a prefix length. */
 typedef struct latchplume_extended_mpls_lvp_fec {
     latchplume_outcome outcome;
-    uint32_t mpls_fec_addr_prefix_length;
+    uint32_t mpls_fec_addr_prefix_length; /* bits of the FEC address prefix */
 } latchplume_extended_mpls_lvp_fec;
 
 latchplume_extended_mpls_lvp_fec latchplume_read_extended_mpls_lvp_fec(
@@ -502,7 +503,7 @@ latchplume_extended_mpls_lvp_fec latchplume_read_extended_mpls_lvp_fec(
 /* Format 1012: the VLAN tags that were taken off, each with its TPID above its TCI. */
 typedef struct latchplume_extended_vlan_tunnel {
     latchplume_outcome outcome;
-    latchplume_span stack; /* a list */
+    latchplume_span stack; /* a list: stripped 802.1Q TPID/TCI layers */
 } latchplume_extended_vlan_tunnel;
 
 latchplume_extended_vlan_tunnel latchplume_read_extended_vlan_tunnel(
@@ -511,8 +512,8 @@ latchplume_extended_vlan_tunnel latchplume_read_extended_vlan_tunnel(
 /* Format 1013: an 802.11 payload before it was encrypted. */
 typedef struct latchplume_extended_80211_payload {
     latchplume_outcome outcome;
-    uint32_t cipher_suite;
-    latchplume_span data; /* bytes */
+    uint32_t cipher_suite; /* encryption scheme: an OUI, and its suite type */
+    latchplume_span data;  /* bytes: unencrypted bytes from the payload */
 } latchplume_extended_80211_payload;
 
 latchplume_extended_80211_payload latchplume_read_extended_80211_payload(
@@ -521,14 +522,14 @@ latchplume_extended_80211_payload latchplume_read_extended_80211_payload(
 /* Format 1014: how an 802.11 packet was received. */
 typedef struct latchplume_extended_80211_rx {
     latchplume_outcome outcome;
-    latchplume_span ssid; /* a string */
-    uint8_t bssid[6];
-    uint32_t version;
-    uint32_t channel;
-    uint64_t speed;
-    uint32_t rsni;
-    uint32_t rcpi;
-    uint32_t packet_duration;
+    latchplume_span ssid;     /* a string: SSID */
+    uint8_t bssid[6];         /* BSSID */
+    uint32_t version;         /* 802.11 version: a is 1, b 2, g 3, n 4 */
+    uint32_t channel;         /* channel number */
+    uint64_t speed;           /* bits a second */
+    uint32_t rsni;            /* received signal to noise ratio */
+    uint32_t rcpi;            /* received channel power */
+    uint32_t packet_duration; /* microseconds that the packet occupied the RF medium */
 } latchplume_extended_80211_rx;
 
 latchplume_extended_80211_rx latchplume_read_extended_80211_rx(
@@ -537,15 +538,15 @@ latchplume_extended_80211_rx latchplume_read_extended_80211_rx(
 /* Format 1015: how an 802.11 packet was sent. */
 typedef struct latchplume_extended_80211_tx {
     latchplume_outcome outcome;
-    latchplume_span ssid; /* a string */
-    uint8_t bssid[6];
-    uint32_t version;
-    uint32_t transmissions;
-    uint32_t packet_duration;
-    uint32_t retrans_duration;
-    uint32_t channel;
-    uint64_t speed;
-    uint32_t power;
+    latchplume_span ssid;      /* a string: SSID */
+    uint8_t bssid[6];          /* BSSID */
+    uint32_t version;          /* 802.11 version: a is 1, b 2, g 3, n 4 */
+    uint32_t transmissions;    /* number of transmissions; 0 if unknown */
+    uint32_t packet_duration;  /* microseconds that the packet occupied the RF medium */
+    uint32_t retrans_duration; /* microseconds that failed attempts occupied the RF medium */
+    uint32_t channel;          /* channel number */
+    uint64_t speed;            /* bits a second */
+    uint32_t power;            /* transmit power in mW */
 } latchplume_extended_80211_tx;
 
 latchplume_extended_80211_tx latchplume_read_extended_80211_tx(
@@ -554,12 +555,13 @@ latchplume_extended_80211_tx latchplume_read_extended_80211_tx(
 /* Format 1016: an 802.11 aggregation: how many PDUs follow. They and their records have descriptors of their own. */
 typedef struct latchplume_extended_80211_aggregation {
     latchplume_outcome outcome;
-    uint32_t pdu_count;
+    uint32_t pdu_count; /* how many PDUs follow */
 } latchplume_extended_80211_aggregation;
 
 latchplume_extended_80211_aggregation latchplume_read_extended_80211_aggregation(
     const uint8_t *data, size_t length, const uint32_t descriptor[LATCHPLUME_DESCRIPTOR_WORDS]);
 
+/* made by layouts/make: to here */
 /* Where a descriptor's payload lies. It refuses nothing: where code 1 or 10 would apply, start and count are 0. */
 latchplume_span latchplume_payload(const uint8_t *data, size_t length, const uint32_t descriptor[LATCHPLUME_DESCRIPTOR_WORDS]);
 

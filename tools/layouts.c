@@ -12,6 +12,9 @@
 #define FIELD(what, name, shape) {#name, shape, offsetof(latchplume_##what, name), NULL}
 #define SAID(what, name, shape, say) {#name, shape, offsetof(latchplume_##what, name), say}
 
+#define LAYOUT(kind, format, what, fields) {kind, format, #what, read_##what, fields, sizeof(fields) / sizeof *(fields)}
+
+/* made by layouts/make from layouts/table: from here */
 READ(header)
 READ(flow_sample)
 READ(counters_sample)
@@ -233,8 +236,6 @@ static const struct field EXTENDED_80211_AGGREGATION[] = {
     FIELD(extended_80211_aggregation, pdu_count, NUMBER),
 };
 
-#define LAYOUT(kind, format, what, fields) {kind, format, #what, read_##what, fields, sizeof(fields) / sizeof *(fields)}
-
 const struct layout LAYOUTS[] = {
     LAYOUT(LATCHPLUME_DATAGRAM, 0, header, HEADER),
     LAYOUT(LATCHPLUME_SAMPLE, 1, flow_sample, FLOW_SAMPLE),
@@ -263,6 +264,7 @@ const struct layout LAYOUTS[] = {
     LAYOUT(LATCHPLUME_FLOW_RECORD, 1015, extended_80211_tx, EXTENDED_80211_TX),
     LAYOUT(LATCHPLUME_FLOW_RECORD, 1016, extended_80211_aggregation, EXTENDED_80211_AGGREGATION),
 };
+/* made by layouts/make: to here */
 
 const size_t LAYOUTS_COUNT = sizeof LAYOUTS / sizeof *LAYOUTS;
 

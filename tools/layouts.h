@@ -31,6 +31,7 @@ struct field {
 /* What any of the calls answers; the outcome comes first in each. */
 union reading {
     latchplume_outcome outcome;
+    /* made by layouts/make from layouts/table: from here */
     latchplume_header header;
     latchplume_flow_sample flow_sample;
     latchplume_counters_sample counters_sample;
@@ -57,6 +58,7 @@ union reading {
     latchplume_extended_80211_rx extended_80211_rx;
     latchplume_extended_80211_tx extended_80211_tx;
     latchplume_extended_80211_aggregation extended_80211_aggregation;
+    /* made by layouts/make: to here */
 };
 
 struct layout {
