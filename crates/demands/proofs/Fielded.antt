@@ -16,7 +16,7 @@ use Rattle.reading.specs.Numbers.{known}
 use Rattle.reading.specs.Script.{Value, Range, Forest, Found, nothing, Script, give}
 use Rattle.reading.specs.Cursor.{Place, got, follow}
 use Rattle.reading.specs.Grammar.{Is}
-use Rattle.reading.specs.Layout.{Row, pdu, flows, flow, samples, datagram}
+use Rattle.reading.specs.Layout.{Row, fixed-rows, pdu, flows, flow, counters, samples, datagram}
 use Rattle.reading.specs.Sizes.{longest-input, depth-limit}
 use Rattle.reading.specs.Values.{alone}
 use Rattle.reading.specs.Answer.{from, nobody, rows, datagrams, layout-of}
@@ -50,7 +50,7 @@ has-known (r ∷ rest) f = go (has-known rest f) (eqb (r .format) f) (eqb f (r .
     go again false true x y = absurd (eqb-false (r .format) f x (sym (eqb-true f (r .format) y)))
 
 pub has-fields-is : (kind format : ℕ) → has-fields kind format ≡ read-here kind format
-unfolding has-fields read-here known samples flows
+unfolding has-fields read-here known samples flows counters
 has-fields-is zero f = go (eqb f 0)
   where
     go : (b : Bool) → (b or false) ≡ b
@@ -58,7 +58,8 @@ has-fields-is zero f = go (eqb f 0)
     go false = refl
 has-fields-is (suc zero) f = has-known (samples depth-limit) f
 has-fields-is (suc (suc zero)) f = has-known (flows (give nothing)) f
-has-fields-is (suc (suc (suc k))) f = refl
+has-fields-is (suc (suc (suc zero))) f = has-known (fixed-rows counters) f
+has-fields-is (suc (suc (suc (suc k)))) f = refl
 
 more-is : (rows : List Row) (f : ℕ) → more-at rows f ≡ more-of rows f
 more-is [] f = refl
@@ -69,7 +70,8 @@ unfolding script-behind follows
 follows-is zero f d vs = refl
 follows-is (suc zero) f d vs = ap (λ (m : List Value → Script). m vs) (more-is (samples depth-limit) f)
 follows-is (suc (suc zero)) f d vs = ap (λ (m : List Value → Script). m vs) (more-is (flows (pdu d (flow depth-limit (depth-limit - d)))) f)
-follows-is (suc (suc (suc k))) f d vs = refl
+follows-is (suc (suc (suc zero))) f d vs = ap (λ (m : List Value → Script). m vs) (more-is (fixed-rows counters) f)
+follows-is (suc (suc (suc (suc k)))) f d vs = refl
 
 among-stands : {r : Range} {inner g : Forest} → Among r inner g → Stands-in r inner g
 among-stands this = here-it

@@ -10,7 +10,7 @@ use lib.ListN.{length, take, drop, length-append, take-append-drop}
 use lib.Seq.{length-take-le}
 use Rattle.reading.specs.Script.{Value, number, Range, Forest, _⊕_, Found, nothing, Item, word, Script, give, here, item, repeat}
 use Rattle.reading.specs.Grammar.{Opaque, Is-item, Many, Is}
-use Rattle.reading.specs.Layout.{num, Field, plain, mac, addr, list, segments, address-of, run-of, field, fields, Row, _⟼_, _⟼_each_, last-number, opened, ranged, between, framed, pdu, flows, flow, counter, samples, sample, header, datagram-to}
+use Rattle.reading.specs.Layout.{num, Field, plain, mac, addr, list, segments, address-of, run-of, field, fields, Row, _⟼_, _⟼_each_, last-number, opened, Fixed, fixed-rows, ranged, between, framed, pdu, flows, flow, counters, counter, samples, sample, header, datagram-to}
 use Rattle.reading.specs.Answer.{nobody, size, rows, one, run, payload}
 use Rattle.reading.specs.Sizes.{longest-input, descriptor-words}
 use Rattle.reading.proofs.Descriptors.{Among, this, inside, later, stands-in}
@@ -140,11 +140,15 @@ unfolding flow Is
 good-flow longest-input zero = record { says = λ o u f k t. absurd t }
 good-flow longest-input (suc left) = good-framed 2 (longest-input - left) (good-opened (good-flows (good-pdu (longest-input - left) (good-flow longest-input left))))
 
+good-fixed : (t : List Fixed) → Rows (fixed-rows t)
+good-fixed [] = over-all
+good-fixed (x ∷ t) = flat (good-fixed t)
+
 good-sample : (longest-input : ℕ) → Good (sample longest-input)
 unfolding samples
 good-sample longest-input =
     let f : Good (flow longest-input longest-input) = good-flow longest-input longest-input in
-    let c : Good counter = good-framed 3 1 (good-opened over-all) in
+    let c : Good counter = good-framed 3 1 (good-opened (good-fixed counters)) in
     good-framed 1 0 (good-opened (counts f (counts c (counts f (counts c (counts f over-all))))))
 
 good-datagram : (longest-input o : ℕ) (u : List ℕ) (f : Found) (k : ℕ) → Is (datagram-to longest-input) o u f k → (s : List ℕ) → Stands-at s o u → Frames s (f .ranges)

@@ -8,7 +8,7 @@ use native.Mathlib.Omega.{arith}
 use lib.Dec.{eqb}
 use Rattle.reading.specs.Script.{Value, Found, nothing, Item, Script, give, here, item, repeat}
 use Rattle.reading.specs.Grammar.{Many, Is}
-use Rattle.reading.specs.Layout.{num, Field, plain, mac, addr, list, segments, address-of, run-of, field, fields, Row, _⟼_, _⟼_each_, last-number, opened, ranged, between, framed, pdu, flows, flow, counter, samples, sample, header, datagram-to}
+use Rattle.reading.specs.Layout.{num, Field, plain, mac, addr, list, segments, address-of, run-of, field, fields, Row, _⟼_, _⟼_each_, last-number, opened, Fixed, fixed-rows, ranged, between, framed, pdu, flows, flow, counters, counter, samples, sample, header, datagram-to}
 use Rattle.demands.specs.Depths.{Shallow, none, also}
 use Rattle.demands.proofs.Depths.{joined, front, back, inner-shallow, own-depth}
 
@@ -113,6 +113,10 @@ module _ (n m : ℕ) where
   both-flows h =
       flat (flat (flat (flat (flat (flat (flat (flat (flat (flat (flat (flat (flat (flat (flat (flat (flat (flat (flat (counts h over)))))))))))))))))))
 
+  both-fixed : (t : List Fixed) → Rows (fixed-rows t) (fixed-rows t)
+  both-fixed [] = over
+  both-fixed (x ∷ t) = flat (both-fixed t)
+
 -- ---- records, by the levels that are left
 
 -- a record at depth d, by what its PDUs hold
@@ -156,7 +160,7 @@ both-sample : (n m : ℕ) → Both n m (sample n) (sample m)
 unfolding samples
 both-sample n m =
     let f : Both n m (flow n n) (flow m m) = both-flow n m n m (omega arith) (omega arith) (omega arith) in
-    let c : Both n m counter counter = both-framed n m 3 1 (λ z. absurd (omega arith)) (both-opened n m over) in
+    let c : Both n m counter counter = both-framed n m 3 1 (λ z. absurd (omega arith)) (both-opened n m (both-fixed n m counters)) in
     both-framed n m 1 0 (λ z. absurd (omega arith)) (both-opened n m (counts f (counts c (counts f (counts c (counts f over))))))
 
 both-datagram : (n m : ℕ) → Both n m (datagram-to n) (datagram-to m)

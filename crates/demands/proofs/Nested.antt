@@ -11,7 +11,7 @@ use lib.Dec.{eqb, leb}
 use lib.ListN.{length, take}
 use Rattle.reading.specs.Script.{Value, Range, Forest, _⊕_, Found, nothing, Script, give}
 use Rattle.reading.specs.Cursor.{Place, Out, got, stop, Reader, times, follow}
-use Rattle.reading.specs.Layout.{Field, fields, Row, _⟼_, _⟼_each_, last-number, opened, ranged, between, framed, pdu, flows, flow, counter, samples, sample, header, datagram-to, datagram}
+use Rattle.reading.specs.Layout.{Field, fields, Row, _⟼_, _⟼_each_, last-number, opened, Fixed, fixed-rows, ranged, between, framed, pdu, flows, flow, counters, counter, samples, sample, header, datagram-to, datagram}
 use Rattle.reading.specs.Sizes.{depth-limit}
 use Rattle.reading.specs.Answer.{tried, datagrams}
 use Rattle.demands.specs.Nested.{end, last, Level, top, inside, Kind-at, Led, inner-from, Nested, none, next}
@@ -156,11 +156,15 @@ orderly-flow limit (suc left) =
     let inner = pdu (limit - left) (flow limit left) in
     orderly-framed 2 (limit - left) (opened (flows inner)) (omega arith) (orderly-opened (orderly-flows inner (orderly-pdu (limit - left) (flow limit left) (aligned-flow limit left) (orderly-flow limit left))))
 
+orderly-fixed : (t : List Fixed) → Rows (fixed-rows t)
+orderly-fixed [] = over
+orderly-fixed (x ∷ t) = flat (orderly-fixed t)
+
 orderly-sample : (limit : ℕ) → Orderly inside (follow (sample limit))
 unfolding samples
 orderly-sample limit =
     let f : Orderly inside (follow (flow limit limit)) = orderly-flow limit limit in
-    let c : Orderly inside (follow counter) = orderly-framed 3 1 (opened []) (omega arith) (orderly-opened over) in
+    let c : Orderly inside (follow counter) = orderly-framed 3 1 (opened (fixed-rows counters)) (omega arith) (orderly-opened (orderly-fixed counters)) in
     orderly-framed 1 0 (opened (samples limit)) (omega arith) (orderly-opened (counts f (counts c (counts f (counts c (counts f over))))))
 
 -- ---- a datagram, and a run of them

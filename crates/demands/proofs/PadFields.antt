@@ -11,7 +11,7 @@ use lib.Seq.{take-take, length-take-le}
 use Rattle.reading.specs.Utf8.{_&_}
 use Rattle.reading.specs.Script.{four, eight, sixteen, Value, octets, address, part, Range, Forest, bare, tree, _⊕_, Found, nothing, Item, word, tested, block, Script, give, item, within, repeat}
 use Rattle.reading.specs.Cursor.{Place, Out, got, then, read-item, times, held-to, follow}
-use Rattle.reading.specs.Layout.{num, oct, Field, plain, mac, addr, list, segments, address-of, any-word, segment, run-of, field, fields, Row, _⟼_, _⟼_each_, last-number, opened, only, ranged, framed, pdu, flows, flow, counter, samples, sample, header, datagram-to, datagram}
+use Rattle.reading.specs.Layout.{num, oct, Field, plain, mac, addr, list, segments, address-of, any-word, segment, run-of, field, fields, Row, _⟼_, _⟼_each_, last-number, opened, Fixed, fixed-rows, only, ranged, framed, pdu, flows, flow, counters, counter, samples, sample, header, datagram-to, datagram}
 use Rattle.reading.specs.Sizes.{longest-input, descriptor-words, depth-limit}
 use Rattle.reading.specs.Values.{alone, valued, reading}
 use Rattle.reading.specs.Answer.{from, nobody, size, room, one, unread, layout-at, layout-of, answered, read}
@@ -245,11 +245,15 @@ good-flow longest-input (suc left) =
     let d = longest-input - left in
     good-framed 2 d (opened (flows (pdu d (flow longest-input left)))) (opens-flow (pdu d (flow longest-input left)) (good-pdu d (flow longest-input left) (good-flow longest-input left)))
 
+good-fixed : (t : List Fixed) → Rows (fixed-rows t)
+good-fixed [] = over
+good-fixed (x ∷ t) = flat (good-fixed t)
+
 good-sample : (levels : ℕ) → Good (sample levels)
 unfolding samples layout-of
 good-sample n =
     let f : Good (flow n n) = good-flow n n in
-    let c : Good counter = good-framed 3 1 (opened []) (opens-rows over) in
+    let c : Good counter = good-framed 3 1 (opened (fixed-rows counters)) (opens-rows (good-fixed counters)) in
     good-framed 1 0 (opened (samples n)) (opens-rows (counts f (counts c (counts f (counts c (counts f over))))))
 
 -- ---- a datagram

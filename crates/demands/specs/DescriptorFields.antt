@@ -9,7 +9,7 @@ use lib.ListN.{take, drop, getD}
 use Rattle.reading.specs.Numbers.{known}
 use Rattle.reading.specs.Script.{Value, Range, Forest, tree, Found, nothing, Script, give, repeat}
 use Rattle.reading.specs.Grammar.{Is}
-use Rattle.reading.specs.Layout.{Row, last-number, pdu, flows, flow, samples, sample}
+use Rattle.reading.specs.Layout.{Row, last-number, fixed-rows, pdu, flows, flow, counters, samples, sample}
 use Rattle.reading.specs.Sizes.{descriptor-words, depth-limit}
 use Rattle.reading.specs.Answer.{size, layout-of, read}
 use Rattle.demands.specs.FieldsItemised.{Fields-reading}
@@ -24,19 +24,23 @@ range w i = record {
   first = getD w (descriptor-words * i + 6) 0;
 }
 
--- the formats of the rules (docs/RULES.md, 3): of the samples that are opened, and of the flow records
+-- the formats of the rules (docs/RULES.md, 3): of the samples that are opened, of the flow records, and of the counter records
 abbrev pub sample-formats : List ℕ
 sample-formats = 1 ∷ 2 ∷ 3 ∷ 4 ∷ 5 ∷ []
 
 abbrev pub flow-formats : List ℕ
 flow-formats = 1 ∷ 2 ∷ 3 ∷ 4 ∷ 1001 ∷ 1002 ∷ 1003 ∷ 1004 ∷ 1005 ∷ 1006 ∷ 1007 ∷ 1008 ∷ 1009 ∷ 1010 ∷ 1011 ∷ 1012 ∷ 1013 ∷ 1014 ∷ 1015 ∷ 1016 ∷ []
 
--- whether a descriptor of this kind and format has fields that are read: a datagram has, and a sample or a flow record of these formats
+abbrev pub counter-formats : List ℕ
+counter-formats = 1 ∷ 2 ∷ 3 ∷ 4 ∷ 5 ∷ 1001 ∷ []
+
+-- whether a descriptor of this kind and format has fields that are read: a datagram has, and a sample or a record of these formats
 unfoldable pub has-fields : (kind format : ℕ) → Bool
 has-fields zero f = known (0 ∷ []) f
 has-fields (suc zero) f = known sample-formats f
 has-fields (suc (suc zero)) f = known flow-formats f
-has-fields (suc (suc (suc k))) f = false
+has-fields (suc (suc (suc zero))) f = known counter-formats f
+has-fields (suc (suc (suc (suc k)))) f = false
 
 -- what a table has behind the fields of this format, by their values
 abbrev pub more-of : List Row → ℕ → List Value → Script
@@ -48,7 +52,8 @@ unfoldable pub follows : (kind format depth : ℕ) → List Value → Script
 follows zero f d vs = repeat (last-number vs) (sample depth-limit) (λ a. give a)
 follows (suc zero) f d vs = more-of (samples depth-limit) f vs
 follows (suc (suc zero)) f d vs = more-of (flows (pdu d (flow depth-limit (depth-limit - d)))) f vs
-follows (suc (suc (suc k))) f d vs = give nothing
+follows (suc (suc (suc zero))) f d vs = more-of (fixed-rows counters) f vs
+follows (suc (suc (suc (suc k)))) f d vs = give nothing
 
 -- the range r stands in a forest, with `inner` inside it
 pub data Stands-in (r : Range) (inner : Forest) : Forest → Type 0 where

@@ -8,7 +8,7 @@ use lib.Dec.{eqb, leb}
 use lib.ListN.{length}
 use Rattle.reading.specs.Script.{Value, Found, Script}
 use Rattle.reading.specs.Cursor.{Place, Out, stop, follow}
-use Rattle.reading.specs.Layout.{num, Field, plain, mac, addr, list, segments, address-of, run-of, field, fields, Row, _⟼_, _⟼_each_, opened, framed, flows, flow, counter, samples, datagram-to, datagram}
+use Rattle.reading.specs.Layout.{num, Field, plain, mac, addr, list, segments, address-of, run-of, field, fields, Row, _⟼_, _⟼_each_, opened, Size, u32, u64, widths, Fixed, fixed-rows, framed, flows, flow, counters, counter, samples, datagram-to, datagram}
 use Rattle.reading.specs.Sizes.{depth-limit}
 use Rattle.reading.specs.Values.{alone}
 use Rattle.reading.specs.Answer.{run-ender, tried, datagrams, layout-at, layout-of}
@@ -69,6 +69,16 @@ coded-flows h =
     flat refl (flat refl (flat refl (flat refl (flat refl (flat refl (flat refl (flat refl (flat refl (flat refl (flat refl (flat refl (flat refl (flat refl (flat refl
     (flat refl (flat refl (flat refl (flat refl (counts refl h none)))))))))))))))))))
 
+-- a fixed layout, and a table of them
+fair-widths : (l : List Size) → fair (widths l) ≡ true
+fair-widths [] = refl
+fair-widths (u32 ∷ l) = fair-widths l
+fair-widths (u64 ∷ l) = fair-widths l
+
+coded-fixed : (t : List Fixed) → Rows (fixed-rows t)
+coded-fixed [] = none
+coded-fixed (x ∷ t) = flat (fair-widths (x .sizes)) (coded-fixed t)
+
 coded-framed : {kind depth : ℕ} {body : ℕ → Script} → ((f : ℕ) → Coded (body f)) → Coded (framed kind depth body)
 coded-framed h = stands (λ o. reads refl (λ f. opens (h (num f)) (λ x a. gives)))
 
@@ -81,7 +91,7 @@ coded-samples : (limit : ℕ) → Rows (samples limit)
 unfolding samples
 coded-samples limit =
     let f : Coded (flow limit limit) = coded-flow limit limit in
-    let c : Coded counter = coded-framed (coded-opened none) in
+    let c : Coded counter = coded-framed (coded-opened (coded-fixed counters)) in
     counts refl f (counts refl c (counts refl f (counts refl c (counts refl f none))))
 
 -- the fields of every descriptor
@@ -90,7 +100,8 @@ unfolding layout-of
 fair-layout zero f = refl
 fair-layout (suc zero) f = fair-at (coded-samples depth-limit) f
 fair-layout (suc (suc zero)) f = fair-at (coded-flows gives) f
-fair-layout (suc (suc (suc k))) f = refl
+fair-layout (suc (suc (suc zero))) f = fair-at (coded-fixed counters) f
+fair-layout (suc (suc (suc (suc k)))) f = refl
 
 -- ---- a datagram, and a run of them
 

@@ -10,7 +10,7 @@ use lib.ListN.{length, take, length-take}
 use lib.Seq.{take-take}
 use Rattle.reading.specs.Script.{Value, Range, Forest, bare, tree, _⊕_, Found, nothing, Script, give, repeat}
 use Rattle.reading.specs.Cursor.{Place, got, times, follow}
-use Rattle.reading.specs.Layout.{fields, Row, last-number, opened, pdu, flows, flow, samples, sample}
+use Rattle.reading.specs.Layout.{fields, Row, last-number, opened, fixed-rows, pdu, flows, flow, counters, samples, sample}
 use Rattle.reading.specs.Sizes.{depth-limit}
 use Rattle.reading.specs.Answer.{from, layout-at, layout-of}
 use Rattle.reading.proofs.Fields.{fields-out}
@@ -33,14 +33,16 @@ unfoldable pub read-here : (kind format : ℕ) → Bool
 read-here zero f = eqb f 0
 read-here (suc zero) f = has-row (samples depth-limit) f
 read-here (suc (suc zero)) f = has-row (flows (give nothing)) f
-read-here (suc (suc (suc k))) f = false
+read-here (suc (suc (suc zero))) f = has-row (fixed-rows counters) f
+read-here (suc (suc (suc (suc k)))) f = false
 
 -- what is read behind the fields, by their values: a datagram's samples, and what the row has; a flow record's PDUs have its depth
 unfoldable pub behind : (kind format depth : ℕ) → List Value → Script
 behind zero f d vs = repeat (last-number vs) (sample depth-limit) (λ a. give a)
 behind (suc zero) f d vs = more-at (samples depth-limit) f vs
 behind (suc (suc zero)) f d vs = more-at (flows (pdu d (flow depth-limit (depth-limit - d)))) f vs
-behind (suc (suc (suc k))) f d vs = give nothing
+behind (suc (suc (suc zero))) f d vs = more-at (fixed-rows counters) f vs
+behind (suc (suc (suc (suc k)))) f d vs = give nothing
 
 -- what a frame of each kind opens, where it is read here, is the fields and what is behind them
 opened-is : (rows : List Row) (f : ℕ) → has-row rows f ≡ true → opened rows f ≡ fields (layout-at rows f) (more-at rows f)
@@ -61,9 +63,9 @@ pub flow-is : (d f : ℕ) → read-here 2 f ≡ true → opened (flows (pdu d (f
 unfolding read-here layout-of behind flows
 flow-is d f h = opened-is (flows (pdu d (flow depth-limit (depth-limit - d)))) f h
 
-pub counter-is : (f : ℕ) → read-here 3 f ≡ true → opened [] f ≡ fields (layout-of 3 f) (behind 3 f 1)
-unfolding read-here
-counter-is f h = let z : _≡_ {A = ℕ} 0 1 = cc in absurd (omega arith)
+pub counter-is : (f : ℕ) → read-here 3 f ≡ true → opened (fixed-rows counters) f ≡ fields (layout-of 3 f) (behind 3 f 1)
+unfolding read-here layout-of behind
+counter-is f h = opened-is (fixed-rows counters) f h
 
 -- ---- what a range holds
 

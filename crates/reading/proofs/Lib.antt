@@ -15,6 +15,7 @@ pub mod Flat
 pub mod Forward
 pub mod Stored
 pub mod Words
+pub mod Widths
 pub mod Addresses
 pub mod Bounds
 pub mod Stands

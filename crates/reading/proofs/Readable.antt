@@ -8,7 +8,7 @@ use lib.Dec.{eqb, leb}
 use lib.ListN.{length, take}
 use Rattle.reading.specs.Script.{Value, Range, Forest, Found, nothing, Script, give}
 use Rattle.reading.specs.Cursor.{Place, Out, got, stop, Reader, times, follow}
-use Rattle.reading.specs.Layout.{Field, fields, Row, _⟼_, _⟼_each_, last-number, opened, ranged, between, framed, pdu, flows, flow, counter, samples, sample, header, datagram}
+use Rattle.reading.specs.Layout.{Field, fields, Row, _⟼_, _⟼_each_, last-number, opened, Fixed, fixed-rows, ranged, between, framed, pdu, flows, flow, counters, counter, samples, sample, header, datagram}
 use Rattle.reading.specs.Sizes.{depth-limit}
 use Rattle.reading.specs.Answer.{from, run-ender, tried, datagrams, layout-of}
 use Rattle.reading.proofs.Items.{never, split, either}
@@ -95,6 +95,10 @@ unfolding flows
 good-flows inner h =
     flat (flat (flat (flat (flat (flat (flat (flat (flat (flat (flat (flat (flat (flat (flat (flat (flat (flat (flat (counts h over)))))))))))))))))))
 
+good-fixed : (t : List Fixed) → Rows (fixed-rows t)
+good-fixed [] = over
+good-fixed (x ∷ t) = flat (good-fixed t)
+
 good-flow : (left : ℕ) → left ≤ depth-limit → Good (follow (flow depth-limit left))
 unfolding flow follow
 good-flow zero i = λ s p a q e. never e
@@ -108,7 +112,7 @@ good-sample : Good (follow (sample depth-limit))
 unfolding samples
 good-sample =
     let f : Good (follow (flow depth-limit depth-limit)) = good-flow depth-limit (omega arith) in
-    let c : Good (follow counter) = good-framed 3 1 (opened []) counter-is (good-opened over) in
+    let c : Good (follow counter) = good-framed 3 1 (opened (fixed-rows counters)) counter-is (good-opened (good-fixed counters)) in
     good-framed 1 0 (opened (samples depth-limit)) sample-is (good-opened (counts f (counts c (counts f (counts c (counts f over))))))
 
 -- ---- a datagram

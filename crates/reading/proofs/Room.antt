@@ -9,7 +9,7 @@ use lib.ListN.{length}
 use Rattle.reading.specs.Bytes.{be4}
 use Rattle.reading.specs.Script.{Value, number, Found, nothing, _&&_, word, tested, Script, give, repeat}
 use Rattle.reading.specs.Cursor.{Place, got, stop, Reader, then, on, read-item, times, follow}
-use Rattle.reading.specs.Layout.{Field, addr, fields, Row, last-number, opened, words, ranged, between, framed, pdu, flows, flow, counter, samples, sample, header, datagram-to}
+use Rattle.reading.specs.Layout.{Field, addr, fields, Row, last-number, opened, words, Fixed, fixed-rows, ranged, between, framed, pdu, flows, flow, counters, counter, samples, sample, header, datagram-to}
 use Rattle.reading.specs.Answer.{size}
 use Rattle.reading.proofs.Items.{never, split}
 use Rattle.reading.proofs.Stands.{place}
@@ -127,8 +127,12 @@ thrifty-flow limit (suc left) =
     thrifty-framed 2 (limit - left) (opened (flows inner))
     (thrifty-opened (flows inner) (thrifty-flows inner (thrifty-pdu (limit - left) (flow limit left) (thrifty-flow limit left))))
 
+thrifty-fixed : (t : List Fixed) → All (fixed-rows t)
+thrifty-fixed [] = none
+thrifty-fixed (x ∷ t) = more (thrifty-flat _) (thrifty-fixed t)
+
 pub thrifty-counter : Thrifty (follow counter)
-thrifty-counter = thrifty-framed 3 1 (opened []) (thrifty-opened [] none)
+thrifty-counter = thrifty-framed 3 1 (opened (fixed-rows counters)) (thrifty-opened (fixed-rows counters) (thrifty-fixed counters))
 
 thrifty-samples : (limit : ℕ) → All (samples limit)
 unfolding samples

@@ -8,7 +8,7 @@ use Rattle.reading.specs.Bytes.{be4, padded}
 use Rattle.reading.specs.Utf8.{_&_}
 use Rattle.reading.specs.Script.{Span, Value, number, integer, octets, address, part, Range, Forest, bare, tree, _⊕_, Found, nothing, give}
 use Rattle.reading.specs.Cursor.{Place, Out, got, stop, Reader, then, follow}
-use Rattle.reading.specs.Layout.{num, oct, Field, list, Row, words, only, flows, samples, header, datagram}
+use Rattle.reading.specs.Layout.{num, oct, Field, list, Row, words, fixed-rows, only, flows, counters, samples, header, datagram}
 use Rattle.reading.specs.Sizes.{longest-input, depth-limit, descriptor-words}
 use Rattle.reading.specs.Values.{zeros, Reading, valued, reading}
 
@@ -135,12 +135,13 @@ abbrev pub layout-at : List Row → ℕ → List Field
 layout-at [] f = []
 layout-at (r ∷ rest) f = cond (eqb (r .format) f) (r .layout) (layout-at rest f)
 
--- the fields of a descriptor of this kind and format: a datagram's header, a sample's fields before its records, a flow record's fields
+-- the fields of a descriptor of this kind and format: a datagram's header, a sample's fields before its records, a record's fields
 unfoldable pub layout-of : (kind format : ℕ) → List Field
 layout-of zero f = header
 layout-of (suc zero) f = layout-at (samples depth-limit) f
 layout-of (suc (suc zero)) f = layout-at (flows (give nothing)) f
-layout-of (suc (suc (suc k))) f = []
+layout-of (suc (suc (suc zero))) f = layout-at (fixed-rows counters) f
+layout-of (suc (suc (suc (suc k)))) f = []
 
 pub record Fields : Type 0 where
   pub code : ℕ

@@ -1,4 +1,4 @@
--- The layouts (docs/RULES.md, 3), as scripts: the two tables row by row, and the frames around them. Assumes nothing.
+-- The layouts (docs/RULES.md, 3), as scripts: the three tables row by row, and the frames around them. Assumes nothing.
 use Prim.Native.Nat.{ℕ, zero, suc, _+_, _-_}
 use mathlib.Core.Bool.{cond}
 use mathlib.Core.List.{List, [], _∷_, _++_}
@@ -108,6 +108,47 @@ version = plain (tested (λ v. eqb v 5) 3)
 abbrev pub protocol : Field
 protocol = plain (tested (known header-protocols) 6)
 
+-- ---- fixed layouts
+
+-- the width of a field that is a number: a word's, or a u64's
+pub data Size : Type 0 where
+  u32 u64 : Size
+
+abbrev pub size-of : Size → ℕ
+size-of u32 = 4
+size-of u64 = 8
+
+abbrev pub sized : Size → Field
+sized u32 = plain word
+sized u64 = plain long
+
+-- the layout with these widths, and its bytes
+abbrev pub widths : List Size → List Field
+widths [] = []
+widths (z ∷ rest) = sized z ∷ widths rest
+
+abbrev pub total : List Size → ℕ
+total [] = 0
+total (z ∷ rest) = size-of z + total rest
+
+-- so many words
+abbrev pub u32s : ℕ → List Size
+u32s n = replicate n u32
+
+-- a format, and the widths of its fields in their order
+pub record Fixed : Type 0 where
+  pub format : ℕ
+  pub sizes : List Size
+
+infix 5 _∶_
+abbrev pub _∶_ : ℕ → List Size → Fixed
+f ∶ l = record { format = f; sizes = l }
+
+-- a table of them, row by row
+abbrev pub fixed-rows : List Fixed → List Row
+fixed-rows [] = []
+fixed-rows (x ∷ rest) = (x .format ⟼ widths (x .sizes)) ∷ fixed-rows rest
+
 -- ---- frames
 
 -- one range, with what is inside it; `o` is the first byte
@@ -130,7 +171,7 @@ framed k d body = here (λ o. item word (λ f. within (body (num f)) (λ x a. gi
 abbrev pub pdu : (depth : ℕ) → Script → Script
 pdu d body = here (λ o. item word (λ n. here (λ a. repeat (num n) body (λ r. here (λ e. give (only (ranged 4 0 d o (between a e) (r .ranges))))))))
 
--- ---- the two tables (docs/RULES.md, R3.3 and R3.8)
+-- ---- the three tables (docs/RULES.md, R3.3, R3.7 and R3.8)
 
 -- the flow records that are opened; `inner` is a PDU of this record
 unfoldable pub flows : (inner : Script) → List Row
@@ -162,9 +203,19 @@ unfoldable pub flow : (limit left : ℕ) → Script
 flow limit zero = refuse 8
 flow limit (suc left) = framed 2 (limit - left) (opened (flows (pdu (limit - left) (flow limit left))))
 
--- a counter record, kept raw
+-- the counter records that are opened, by the widths of their fields
+unfoldable pub counters : List Fixed
+counters =
+    (1 ∶ u32s 2 ++ u64 ∷ u32s 2 ++ u64 ∷ u32s 6 ++ u64 ∷ u32s 6)  -- generic interface
+    ∷ (2 ∶ u32s 13)  -- Ethernet
+    ∷ (3 ∶ u32s 18)  -- token ring
+    ∷ (4 ∶ u32 ∷ u64 ∷ u32 ∷ u64 ∷ u32s 5 ++ u64 ∷ u32 ∷ u64 ∷ u64 ∷ u64 ∷ [])  -- 100BaseVG
+    ∷ (5 ∶ u32 ∷ u64 ∷ u32s 4)  -- VLAN
+    ∷ (1001 ∶ u32s 3 ++ u64 ∷ u64 ∷ [])  -- processor
+    ∷ []
+
 abbrev pub counter : Script
-counter = framed 3 1 (opened [])
+counter = framed 3 1 (opened (fixed-rows counters))
 
 -- the samples that are opened; their own records have depth 1
 unfoldable pub samples : (limit : ℕ) → List Row

@@ -6,7 +6,7 @@ use lib.ListN.{length, take, replicate}
 use Rattle.reading.specs.Bytes.{be4}
 use Rattle.reading.specs.Numbers.{known, header-protocols}
 use Rattle.reading.specs.Cursor.{read-item, follow}
-use Rattle.reading.specs.Layout.{address-of, run-of, field, fields, last-number, opened, flows, flow, samples, datagram-to}
+use Rattle.reading.specs.Layout.{address-of, run-of, field, fields, last-number, total, Fixed, opened, flows, flow, counters, samples, datagram-to}
 use Rattle.reading.specs.Answer.{size, rows, Header, header-of, no-header, Answer, refused, stored, one, tried, datagrams, run}
 use Rattle.reading.specs.Sizes.{descriptor-words}
 
@@ -31,6 +31,12 @@ nest : (d n : ℕ) → List ℕ
 nest zero n = []
 nest (suc zero) n = 1016 ∷ 8 ∷ 1 ∷ n ∷ []
 nest (suc (suc d)) n = 1016 ∷ (8 + 16 * suc d) ∷ 1 ∷ 1 ∷ nest (suc d) n
+
+-- ---- the bytes of a counter record, format by format
+
+pub counter-sizes : map (λ (x : Fixed). total (x .sizes)) counters ≡ 88 ∷ 52 ∷ 72 ∷ 80 ∷ 28 ∷ 28 ∷ []
+unfolding counters
+counter-sizes = refl
 
 -- ---- answers
 
@@ -134,5 +140,5 @@ sessions =
     ∷ []
 
 pub the-paper-holds : map (λ (t : Session). t .call (t .input) (t .store)) sessions ≡ map (λ (t : Session). t .answer) sessions
-unfolding sessions be4 known header-protocols follow read-item address-of run-of field fields last-number opened flows flow samples datagram-to size rows header-of no-header stored one tried datagrams run
+unfolding sessions be4 known header-protocols follow read-item address-of run-of field fields last-number opened flows flow counters samples datagram-to size rows header-of no-header stored one tried datagrams run
 the-paper-holds = refl
