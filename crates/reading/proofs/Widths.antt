@@ -1,12 +1,13 @@
 -- A fixed layout, whatever its widths: where all its bytes are there it is read by one comparison, and where they are not it is refused at the
 -- first item that passes the end. Assumes nothing.
-use Prim.Native.Nat.{ℕ, suc, _+_, _≤_, _<_}
-use mathlib.Core.Path.{_≡_, refl, ap, _∙_}
+use Prim.Native.Nat.{ℕ, _+_, _≤_, _<_}
+use mathlib.Core.Path.{_≡_, refl, _∙_}
 use mathlib.Core.List.{List, [], _∷_, _++_}
 use native.Mathlib.Omega.{arith}
-use native.Mathlib.Nat.{add-zero, add-assoc}
+use native.Mathlib.Nat.{zero-add, add-zero, add-assoc}
 use borrow.Author.Tests.{le-leb, lt-leb}
-use lib.ListN.{length}
+use lib.ListN.{length, drop}
+use lib.Seq.{getD-drop}
 use Rattle.reading.specs.Bytes.{be4, be8}
 use Rattle.reading.specs.Script.{Value, number}
 use Rattle.reading.specs.Cursor.{Place, got, stop, on, fixed, read-item}
@@ -26,6 +27,22 @@ numbers-from (z ∷ l) s at k = number (number-at z s (at + k)) ∷ numbers-from
 
 abbrev pub numbers : List Size → List ℕ → (at : ℕ) → List Value
 numbers l s at = numbers-from l s at 0
+
+-- what stands behind `at`, by its own bytes
+be4-behind : (s : List ℕ) (at k : ℕ) → be4 (drop at s) (0 + k) ≡ be4 s (at + k)
+unfolding be4
+be4-behind s at k = simp (getD-drop, zero-add, add-assoc)
+
+number-behind : (z : Size) (s : List ℕ) (at k : ℕ) → number-at z (drop at s) (0 + k) ≡ number-at z s (at + k)
+unfolding be8
+number-behind u32 s at k = be4-behind s at k
+number-behind u64 s at k =
+    let e : be4 (drop at s) (0 + k + 4) ≡ be4 s (at + k + 4) = rw (add-assoc 0 k 4, add-assoc at k 4) (be4-behind s at (k + 4)) in
+    rw (be4-behind s at k, e)
+
+pub numbers-behind : (l : List Size) (s : List ℕ) (at k : ℕ) → numbers-from l (drop at s) 0 k ≡ numbers-from l s at k
+numbers-behind [] s at k = refl
+numbers-behind (z ∷ l) s at k = rw (number-behind z s at k, numbers-behind l s at (k + size-of z))
 
 -- no item is without a byte
 pub some-bytes : (l : List Size) → length l ≤ total l

@@ -1,0 +1,3 @@
+pub mod Passing
+pub mod Formats
+pub mod Reading

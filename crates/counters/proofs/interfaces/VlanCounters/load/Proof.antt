@@ -1,0 +1,21 @@
+use mathlib.Core.Path.{refl}
+use borrow.Author.Needs.{needs}
+use Rattle.reading.specs.Layout.{counters}
+use Rattle.xdr.proofs.Rows.{same-numbers}
+use Rattle.counters.specs.Sizes.{sizes-of}
+use Rattle.counters.proofs.interfaces.VlanCounters.load.Statement.{statement}
+use Rattle.counters.proofs.interfaces.VlanCounters.load.Tie as tie
+
+pub load-spec : {M : Type 1} → statement M
+unfolding sizes-of counters
+load-spec =
+    tie.close
+    (tie.spec
+    (λ c κs. search needs)  -- be32-requires
+    (λ c κs. search needs)  -- be64-requires
+    (λ c κs. search needs)  -- be32-requires-2
+    (λ c κs. search needs)  -- be32-requires-3
+    (λ c κs. search needs)  -- be32-requires-4
+    (λ c κs. search needs)  -- be32-requires-5
+    (λ c. (refl, search same-numbers depth 30))  -- returns
+    )
