@@ -7,7 +7,7 @@ use borrow.Author.Tests.{ne-eqb}
 use lib.Dec.{eqb}
 use Rattle.reading.specs.Script.{Value, bare, nothing, Script, give}
 use Rattle.reading.specs.Cursor.{Place, Out, got, stop, then, follow}
-use Rattle.reading.specs.Layout.{Field, fields, Row, opened, flows}
+use Rattle.reading.specs.Layout.{Field, fields, Row, opened, Fixed, fixed-rows, flows}
 use Rattle.reading.proofs.Fields.{fields-out, fields-then}
 use Rattle.reading.proofs.Places.{ranges-of}
 
@@ -34,6 +34,13 @@ bare-opened f rows (flat {r} {rest} e t) s p = go (eqb (r .format) f) (bare-open
     go true h = ap (λ (m : List Value → Script). ranges-of (follow (fields (r .layout) m) s p)) e ∙ bare-fields (r .layout) s p
     go false h = h
 bare-opened f rows (not-this {r} {rest} z t) s p = rw (ne-eqb (r .format) f z) (bare-opened f rest t s p)
+
+pub fixed-bare : (t : List Fixed) (f : ℕ) (s : List ℕ) (p : Place) → ranges-of (follow (opened (fixed-rows t) f) s p) ≡ bare
+fixed-bare t f s p = bare-opened f (fixed-rows t) (go t) s p
+  where
+    go : (t : List Fixed) → Flat f (fixed-rows t)
+    go [] = none
+    go (x ∷ t) = flat refl (go t)
 
 pub other-bare : (inner : Script) (f : ℕ) (s : List ℕ) (p : Place) → (f ≡ 1016 → ⊥) → ranges-of (follow (opened (flows inner) f) s p) ≡ bare
 unfolding flows

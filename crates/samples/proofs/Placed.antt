@@ -1,7 +1,7 @@
 -- The second pass over samples: a law for each need of its functions, with the facts that the code has there. Assumes nothing.
 use Prim.Native.Nat.{ℕ, _+_, _*_, _-_, _≤_, _<_}
 use mathlib.Core.Path.{_≡_, refl, sym, ap, _∙_}
-use mathlib.Core.List.{List, []}
+use mathlib.Core.List.{List}
 use native.Mathlib.Omega.{arith}
 use borrow.Author.Needs.{needs}
 use lib.ListN.{length}
@@ -9,10 +9,11 @@ use Rattle.reading.specs.Sizes.{depth-limit}
 use Rattle.reading.specs.Bytes.{be4}
 use Rattle.reading.specs.Script.{Found, Script}
 use Rattle.reading.specs.Cursor.{Out, times, follow}
-use Rattle.reading.specs.Layout.{words, last-number, opened, flows, pdu, flow, counter, samples, sample}
+use Rattle.reading.specs.Layout.{words, last-number, opened, fixed-rows, flows, pdu, flow, counters, counter, samples, sample}
 use Rattle.reading.specs.Answer.{size, from}
 use Rattle.reading.proofs.Words.{numbers, row-got}
 use Rattle.reading.proofs.Places.{Accepted, ranges-of, Each-at, each-lies, words-lie}
+use Rattle.reading.proofs.Flat.{fixed-bare}
 use Rattle.store.specs.declared.Pen.{Pen}
 use Rattle.flows.specs.declared.put.Flat.{Flat}
 use Rattle.store.specs.Written.{index, Ready, Put, Framed-here, a-pen, held-by, framed-at, placed, filled, fills}
@@ -31,12 +32,11 @@ module _ (s l : List ℕ) (at base parent word n : ℕ) (g : Ready s l (a-pen ba
   first = placing.ready-first counter n s l at base parent word g z
 
   pub counter-here : Framed-here s l at (a-pen base parent word)
-  counter-here = placing.frame-here 3 1 (opened []) s l at (a-pen base parent word) first
+  counter-here = placing.frame-here 3 1 (opened (fixed-rows counters)) s l at (a-pen base parent word) first
 
   module _ {a b : ℕ} {l′ : List ℕ} (e : a-put a b l′ ≡ framed-at 3 1 s at (a-pen base parent word) l) where
     counter-placed : a-put a b l′ ≡ placed (a-pen base parent word) (follow counter s (from at)) l
-    unfolding opened follow ranges-of
-    counter-placed = placing.frame-alone 3 1 (opened []) s l at (a-pen base parent word) first 1 e refl refl
+    counter-placed = placing.frame-alone 3 1 (opened (fixed-rows counters)) s l at (a-pen base parent word) first 1 e refl (fixed-bare counters (be4 s at) s (from (at + 8)))
 
     pub counter-turn : {m : ℕ} {u : Put} → length l ≡ m → placed (a-pen base parent word) (times n (follow counter) s (from at)) l ≡ u
         → (length l′ ≡ m) × Ready s l′ (a-pen base parent b) (times (n - 1) (follow counter) s (from a)) × (placed (a-pen base parent b) (times (n - 1) (follow counter) s (from a)) l′ ≡ u)

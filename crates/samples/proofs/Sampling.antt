@@ -9,20 +9,20 @@ use lib.ListN.{length, take}
 use mir.Syntax.{w64}
 use mir.Val.{Fits}
 use Rattle.reading.specs.Sizes.{depth-limit}
-use Rattle.reading.specs.Script.{Value, word, Script, give, repeat}
+use Rattle.reading.specs.Script.{Value, nothing, word, Script, give, repeat}
 use Rattle.reading.specs.Cursor.{Out, got, times, follow}
 use Rattle.reading.specs.Bytes.{be4}
 use Rattle.reading.specs.Layout.{Field, plain, fields, words, last-number, opened, framed, flow, counter, samples, sample}
 use Rattle.reading.proofs.Fields.{fields-out}
 use Rattle.reading.proofs.Words.{numbers, last-word}
-use Rattle.reading.proofs.Counts.{counted, counted-none, resumed, frame-at, frame-stop, frame-held, fields-stop, each-held}
+use Rattle.reading.proofs.Counts.{counted, counted-stop, counted-none, resumed, frame-at, frame-stop, frame-held, fields-stop, each-held}
 use Rattle.reading.proofs.Room.{thrifty-counter, thrifty-sample}
 use Rattle.xdr.specs.declared.Cursor.{Cursor}
 use Rattle.xdr.specs.declared.Outcome.{Outcome}
 use Rattle.xdr.specs.declared.Span.{Span}
 use Rattle.xdr.specs.declared.Passed.{Passed}
 use Rattle.xdr.specs.declared.Passed.the-variants as passed
-use Rattle.xdr.specs.Shown.{place, Inside, refusal}
+use Rattle.xdr.specs.Shown.{place, Inside, refusal, passed-out}
 use Rattle.xdr.proofs.Rows.{row-forward}
 use Rattle.layout.specs.declared.frames.Frame.{Frame}
 use Rattle.layout.specs.declared.frames.Frame.the-variants as frame
@@ -59,11 +59,13 @@ module _ (kind depth : ℕ) (body : ℕ → Script) (s : List ℕ) (c : Cursor) 
     unfolding resumed
     held-got {u} {j} w = sym (frame-held kind depth body s (place c) k (rw h at e) ∙ ap (resumed (d .at)) (sym (rw w at i)))
 
--- a counter record stays raw
-pub counter-got : {r : Frame} {f : ℕ} {x : Span} {d : Cursor} (s : List ℕ) (c : Cursor) (k : ℕ) → frame-out r ≡ frame-at s (place c) → r ≡ frame.Got f x d → got (k + 1) (place d) ≡ counted k (follow counter s (place c))
-unfolding resumed opened follow
-counter-got {f = f} {x} {d} s c k e h =
-    sym (frame-held 3 1 (opened []) s (place c) k (rw h at e) ∙ ap (resumed (d .at)) (sym (counted-none (k + 1) (place (record { at = x .start; steps = d .steps })) refl)))
+-- ---- what a counter record holds
+module _ (sc : Script) (s : List ℕ) (c : Cursor) (k : ℕ) {r : Passed} (e : passed-out r nothing ≡ follow sc s (place c)) where
+  pub data-stop : {x : Outcome} → r ≡ passed.Stop x → refusal x ≡ counted k (follow sc s (place c))
+  data-stop h = counted-stop k _ (rw h at e)
+
+  pub data-got : {d : Cursor} → r ≡ passed.Got d → got k (place d) ≡ counted k (follow sc s (place c))
+  data-got {d} h = counted-none k (place d) (rw h at e)
 
 -- ---- what stands behind the fields
 module _ (body : Script) (s : List ℕ) (n k : ℕ) where
@@ -206,7 +208,8 @@ pub ruleset sampling = (
   held-cut,
   held-stop,
   held-got,
-  counter-got,
+  data-stop,
+  data-got,
   behind-cut,
   behind-got,
   behind-last,

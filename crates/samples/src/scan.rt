@@ -4,7 +4,7 @@ ghost use Prim.Native.Nat.{_+_, _-_, _≤_};
 ghost use Rattle.reading.specs.Sizes.{depth-limit};
 ghost use Rattle.reading.specs.Bytes.{be4};
 ghost use Rattle.reading.specs.Cursor.{times, follow};
-ghost use Rattle.reading.specs.Layout.{words, opened, flow, counter, samples, sample};
+ghost use Rattle.reading.specs.Layout.{words, opened, fixed-rows, flow, counters, counter, samples, sample};
 ghost use Rattle.reading.proofs.Counts.{counted};
 ghost use Rattle.xdr.specs.Shown.{place, Inside};
 ghost use Rattle.layout.specs.Scanned.{Scan, scanned-out};
@@ -12,6 +12,7 @@ ghost use Rattle.layout.specs.Chain.{Ends};
 ghost use Rattle.samples.specs.Held.{Counted, Has-last, rest-of};
 use crate::kinds::SampleKind;
 use crate::kinds::kind_of;
+use counters::data;
 use flows::MAX_DEPTH;
 use flows::scan;
 use flows::scan_ahead;
@@ -23,14 +24,42 @@ use load;
 use xdr::Cursor;
 use xdr::Passed;
 
-// One counter record, kept raw.
+// What a counter record of this format holds: no descriptor more.
+fn counter_data(s: &[u8], c: Cursor, format: u32, count: usize) -> Scanned
+    requires { ⌜ Scan (now s) c count ⌝ }
+    ensures { λ r. ⌜ scanned-out r ≡ counted count (follow (opened (fixed-rows counters) format) (now (s .entry)) (place c)) ⌝ }
+{
+    match data::pass(c, s, format) {
+        Passed::Stop(r) => Scanned::Stop(r),
+        Passed::Got(d) => Scanned::Got(d, count),
+    }
+}
+
+// One counter record.
 fn counter_record(s: &[u8], c: Cursor, count: usize) -> Scanned
     requires { ⌜ Scan (now s) c count ⌝ }
     ensures { λ r. ⌜ scanned-out r ≡ counted count (follow counter (now (s .entry)) (place c)) ⌝ }
 {
     match Frame::parse(c, s) {
         Frame::Stop(r) => Scanned::Stop(r),
-        Frame::Got(_, _, d) => Scanned::Got(d, count + 1),
+        Frame::Got(format, x, e) => {
+            let start = x.start;
+            let end = start + x.count;
+            let inner = Cursor {
+                at: start,
+                steps: e.steps,
+            };
+            match counter_data(&s[..end], inner, format, count + 1) {
+                Scanned::Stop(r) => Scanned::Stop(r),
+                Scanned::Got(d, k) => Scanned::Got(
+                    Cursor {
+                        at: e.at,
+                        steps: d.steps,
+                    },
+                    k,
+                ),
+            }
+        }
     }
 }
 
