@@ -561,6 +561,131 @@ typedef struct latchplume_extended_80211_aggregation {
 latchplume_extended_80211_aggregation latchplume_read_extended_80211_aggregation(
     const uint8_t *data, size_t length, const uint32_t descriptor[LATCHPLUME_DESCRIPTOR_WORDS]);
 
+/* Counter records: kind 3. */
+
+/* Format 1: the counters of any interface, by RFC 2233. */
+typedef struct latchplume_generic_interface_counters {
+    latchplume_outcome outcome;
+    uint32_t if_index;              /* ifIndex of the interface */
+    uint32_t if_type;               /* ifType of the interface */
+    uint64_t if_speed;              /* bandwidth of the interface in bits a second */
+    uint32_t if_direction;          /* derived from the MAU MIB: 0 unknown, 1 full-duplex, 2 half-duplex, 3 in, 4 out */
+    uint32_t if_status;             /* bit 0 is ifAdminStatus, bit 1 is ifOperStatus: 0 is down, 1 is up */
+    uint64_t if_in_octets;          /* octets received, framing characters included */
+    uint32_t if_in_ucast_pkts;      /* unicast packets received */
+    uint32_t if_in_multicast_pkts;  /* multicast packets received */
+    uint32_t if_in_broadcast_pkts;  /* broadcast packets received */
+    uint32_t if_in_discards;        /* packets received and discarded though they had no errors */
+    uint32_t if_in_errors;          /* packets received with errors */
+    uint32_t if_in_unknown_protos;  /* packets received and discarded for an unknown or unsupported protocol */
+    uint64_t if_out_octets;         /* octets sent, framing characters included */
+    uint32_t if_out_ucast_pkts;     /* unicast packets to send, discarded ones included */
+    uint32_t if_out_multicast_pkts; /* multicast packets to send, discarded ones included */
+    uint32_t if_out_broadcast_pkts; /* broadcast packets to send, discarded ones included */
+    uint32_t if_out_discards;       /* packets to send and discarded though they had no errors */
+    uint32_t if_out_errors;         /* packets not sent because of errors */
+    uint32_t if_promiscuous_mode;   /* whether packets for any station are accepted: 1 is true, 2 is false */
+} latchplume_generic_interface_counters;
+
+latchplume_generic_interface_counters latchplume_read_generic_interface_counters(
+    const uint8_t *data, size_t length, const uint32_t descriptor[LATCHPLUME_DESCRIPTOR_WORDS]);
+
+/* Format 2: the counters of an Ethernet interface, by RFC 2358. */
+typedef struct latchplume_ethernet_interface_counters {
+    latchplume_outcome outcome;
+    uint32_t dot3_stats_alignment_errors;             /* frames received that are not a whole number of octets and do not pass the FCS check */
+    uint32_t dot3_stats_fcs_errors;                   /* frames received that are a whole number of octets and do not pass the FCS check */
+    uint32_t dot3_stats_single_collision_frames;      /* frames sent after one collision */
+    uint32_t dot3_stats_multiple_collision_frames;    /* frames sent after more than one collision */
+    uint32_t dot3_stats_sqe_test_errors;              /* the SQE TEST ERROR message was generated */
+    uint32_t dot3_stats_deferred_transmissions;       /* frames whose first attempt was delayed because the medium was busy */
+    uint32_t dot3_stats_late_collisions;              /* a collision later than 512 bit-times into the transmission of a packet */
+    uint32_t dot3_stats_excessive_collisions;         /* frames not sent because of excessive collisions */
+    uint32_t dot3_stats_internal_mac_transmit_errors; /* frames not sent because of an internal MAC sublayer transmit error */
+    uint32_t dot3_stats_carrier_sense_errors;         /* carrier sense was lost or never asserted when a frame was to be sent */
+    uint32_t dot3_stats_frame_too_longs;              /* frames received that exceed the maximum permitted frame size */
+    uint32_t dot3_stats_internal_mac_receive_errors;  /* frames not received because of an internal MAC sublayer receive error */
+    uint32_t dot3_stats_symbol_errors;                /* an invalid data symbol when a valid carrier was present */
+} latchplume_ethernet_interface_counters;
+
+latchplume_ethernet_interface_counters latchplume_read_ethernet_interface_counters(
+    const uint8_t *data, size_t length, const uint32_t descriptor[LATCHPLUME_DESCRIPTOR_WORDS]);
+
+/* Format 3: the counters of a token ring interface, by RFC 1748. */
+typedef struct latchplume_token_ring_counters {
+    latchplume_outcome outcome;
+    uint32_t dot5_stats_line_errors;         /* a frame or token with a non-data bit, or a frame with an FCS error */
+    uint32_t dot5_stats_burst_errors;        /* no transitions for five half-bit timers */
+    uint32_t dot5_stats_ac_errors;           /* a station that cannot set the AC bits properly */
+    uint32_t dot5_stats_abort_trans_errors;  /* an abort delimiter transmitted while transmitting */
+    uint32_t dot5_stats_internal_errors;     /* an internal error was recognized */
+    uint32_t dot5_stats_lost_frame_errors;   /* the TRR timer expired while transmitting */
+    uint32_t dot5_stats_receive_congestions; /* a frame for its own address, and no buffer space available */
+    uint32_t dot5_stats_frame_copied_errors; /* a frame for its own address with the A bits set already */
+    uint32_t dot5_stats_token_errors;        /* as active monitor it saw an error that needs a token transmitted */
+    uint32_t dot5_stats_soft_errors;         /* soft errors, which are the report error MAC frames that it sent */
+    uint32_t dot5_stats_hard_errors;         /* immediately recoverable fatal errors */
+    uint32_t dot5_stats_signal_loss;         /* loss of signal from the ring */
+    uint32_t dot5_stats_transmit_beacons;    /* beacon frames transmitted */
+    uint32_t dot5_stats_recoverys;           /* claim token MAC frames received or transmitted after a ring purge */
+    uint32_t dot5_stats_lobe_wires;          /* an open or short circuit in the lobe data path */
+    uint32_t dot5_stats_removes;             /* a request to leave the ring was received */
+    uint32_t dot5_stats_singles;             /* it sensed that it is the only station on the ring */
+    uint32_t dot5_stats_freq_errors;         /* the incoming signal's frequency is too far from the expected one */
+} latchplume_token_ring_counters;
+
+latchplume_token_ring_counters latchplume_read_token_ring_counters(
+    const uint8_t *data, size_t length, const uint32_t descriptor[LATCHPLUME_DESCRIPTOR_WORDS]);
+
+/* Format 4: the counters of a 100BaseVG interface, by RFC 2020. */
+typedef struct latchplume_vg100_interface_counters {
+    latchplume_outcome outcome;
+    uint32_t dot12_in_high_priority_frames;     /* high priority frames received */
+    uint64_t dot12_in_high_priority_octets;     /* octets of high priority frames received */
+    uint32_t dot12_in_norm_priority_frames;     /* normal priority frames received */
+    uint64_t dot12_in_norm_priority_octets;     /* octets of normal priority frames received */
+    uint32_t dot12_in_ipm_errors;               /* frames received with an invalid packet marker */
+    uint32_t dot12_in_oversize_frame_errors;    /* frames received that exceed the maximum permitted frame size */
+    uint32_t dot12_in_data_errors;              /* frames received with errors in their data */
+    uint32_t dot12_in_null_addressed_frames;    /* frames received with a null destination address */
+    uint32_t dot12_out_high_priority_frames;    /* high priority frames sent */
+    uint64_t dot12_out_high_priority_octets;    /* octets of high priority frames sent */
+    uint32_t dot12_transition_into_trainings;   /* the interface entered the training state */
+    uint64_t dot12_hc_in_high_priority_octets;  /* octets of high priority frames received, as a 64-bit counter */
+    uint64_t dot12_hc_in_norm_priority_octets;  /* octets of normal priority frames received, as a 64-bit counter */
+    uint64_t dot12_hc_out_high_priority_octets; /* octets of high priority frames sent, as a 64-bit counter */
+} latchplume_vg100_interface_counters;
+
+latchplume_vg100_interface_counters latchplume_read_vg100_interface_counters(
+    const uint8_t *data, size_t length, const uint32_t descriptor[LATCHPLUME_DESCRIPTOR_WORDS]);
+
+/* Format 5: the counters of a VLAN. */
+typedef struct latchplume_vlan_counters {
+    latchplume_outcome outcome;
+    uint32_t vlan_id;        /* VLAN ID */
+    uint64_t octets;         /* octets */
+    uint32_t ucast_pkts;     /* unicast packets */
+    uint32_t multicast_pkts; /* multicast packets */
+    uint32_t broadcast_pkts; /* broadcast packets */
+    uint32_t discards;       /* packets discarded */
+} latchplume_vlan_counters;
+
+latchplume_vlan_counters latchplume_read_vlan_counters(
+    const uint8_t *data, size_t length, const uint32_t descriptor[LATCHPLUME_DESCRIPTOR_WORDS]);
+
+/* Format 1001: the load of the processor, and its memory. */
+typedef struct latchplume_processor_counters {
+    latchplume_outcome outcome;
+    uint32_t cpu_5s;       /* CPU utilization, 5 second average, in hundredths of a percent; 0xffffffff (-1) if unknown */
+    uint32_t cpu_1m;       /* CPU utilization, 1 minute average, in hundredths of a percent; 0xffffffff (-1) if unknown */
+    uint32_t cpu_5m;       /* CPU utilization, 5 minute average, in hundredths of a percent; 0xffffffff (-1) if unknown */
+    uint64_t total_memory; /* total memory in bytes */
+    uint64_t free_memory;  /* free memory in bytes */
+} latchplume_processor_counters;
+
+latchplume_processor_counters latchplume_read_processor_counters(
+    const uint8_t *data, size_t length, const uint32_t descriptor[LATCHPLUME_DESCRIPTOR_WORDS]);
+
 /* made by layouts/make: to here */
 /* Where a descriptor's payload lies. It refuses nothing: where code 1 or 10 would apply, start and count are 0. */
 latchplume_span latchplume_payload(const uint8_t *data, size_t length, const uint32_t descriptor[LATCHPLUME_DESCRIPTOR_WORDS]);

@@ -1,6 +1,7 @@
 """What stands in C: the header's structs and declarations, and the names that the command shows."""
-KINDS = ('LATCHPLUME_DATAGRAM', 'LATCHPLUME_SAMPLE', 'LATCHPLUME_FLOW_RECORD')
-SECTIONS = ('The header of a datagram: kind 0.', 'Samples: kind 1, the fields before their records.', 'Flow records: kind 2.')
+from rows import KINDS
+
+SECTIONS = ('The header of a datagram: kind 0.', 'Samples: kind 1, the fields before their records.', 'Flow records: kind 2.', 'Counter records: kind 3.')
 SPANS = {'STRING': 'a string: ', 'BYTES': 'bytes: ', 'LIST': 'a list: ', 'SEGMENTS': 'segments: '}
 DESCRIPTOR = 'const uint8_t *data, size_t length, const uint32_t descriptor[LATCHPLUME_DESCRIPTOR_WORDS]'
 
@@ -32,8 +33,9 @@ def table(layouts):
         text += '\nstatic const struct field %s[] = {\n' % one.name.upper()
         for field in one.fields:
             shape = 'IPV4' if field.seen == 'IPv4' else field.shape.tool
-            said = ('SAID', ', ' + field.say) if field.say else ('FIELD', '')
-            text += '    %s(%s, %s, %s%s),\n' % (said[0], one.name, field.name, shape, said[1])
+            said, more = ('SAID_LONG' if shape == 'LONG' else 'SAID', ', ' + field.say) if field.say else ('FIELD', '')
+            text += '    %s(%s, %s, %s%s),\n' % (said, one.name, field.name, shape, more)
         text += '};\n'
-    rows = ''.join('    LAYOUT(%s, %d, %s, %s),\n' % (KINDS[one.kind], one.format, one.name, one.name.upper()) for one in layouts)
+    kinds = ['LATCHPLUME_' + kind.upper().replace(' ', '_') for kind in KINDS]
+    rows = ''.join('    LAYOUT(%s, %d, %s, %s),\n' % (kinds[one.kind], one.format, one.name, one.name.upper()) for one in layouts)
     return text + '\nconst struct layout LAYOUTS[] = {\n%s};\n' % rows

@@ -2,13 +2,14 @@
 import re
 
 MADE = 'Made by layouts/make from layouts/table.'
-LONGEST = 39  # lines of a function
+LONGEST, BROADEST = 39, 60  # lines of a function; columns that `rt fmt` leaves to what is called with, and to a chain of calls
 # Where what a reader may name comes from; and what its contracts may cite.
 USES = {'Address': 'xdr', 'Counted': 'layout::field', 'DataSource': 'numbers', 'DataSourceExpanded': 'crate::kinds', 'Interface': 'numbers',
         'InterfaceExpanded': 'crate::kinds', 'Network': 'crate::parts', 'Route': 'crate::parts', 'Outcome': 'xdr', 'Passed': 'xdr', 'Span': 'xdr'}
-CITES = {'mathlib.Core.Path': '_≡_', 'mathlib.Core.List': '[] _∷_ _++_', 'Rattle.reading.specs.Script': 'long opaque six sixteen',
-         'Rattle.reading.specs.Layout': 'addr bytes list mac plain protocol segments str words', 'Rattle.reading.specs.Values': 'zeros',
-         'Rattle.reading.specs.Answer': 'layout-of', 'Rattle.xdr.specs.Shown': 'Answers', 'Rattle.layout.specs.Chain': 'Within'}
+CITES = {'mathlib.Core.Path': '_≡_', 'mathlib.Core.List': '[] _∷_ _++_', 'Prim.Native.Nat': '_+_ _≤_', 'lib.ListN': 'length',
+         'Rattle.reading.specs.Script': 'long opaque six sixteen', 'Rattle.reading.specs.Layout': 'addr bytes list mac plain protocol segments str words',
+         'Rattle.reading.specs.Values': 'zeros', 'Rattle.reading.specs.Answer': 'layout-of', 'Rattle.reading.proofs.Widths': 'numbers',
+         'Rattle.xdr.specs.Shown': 'Answers', 'Rattle.layout.specs.Chain': 'Within', 'Rattle.counters.specs.Sizes': 'sizes-of'}
 
 
 class Step:
@@ -22,6 +23,16 @@ class Step:
         self.call, self.name = ('field::words(%%s, s, %d)' % self.words, 'row') if self.row else (call, name)
         self.gives = [] if self.row else [(f.name, f.name if part else shape.value) for f in fields]
         self.passed, self.loaded = 'words(s, %d)' % self.words if self.words else shape.passed, 'words'
+
+    def values(self):
+        """What each of its fields is where all was read."""
+        at = 0
+        for field in self.fields:
+            names = field.shape.words or ('',)
+            words = ['%s[%d]' % (self.loaded, at + i) if self.row else field.name for i in range(len(names))]
+            at += len(names)
+            one = '%s(%s)' % (field.shape.rust, words[0]) if names[0] else words[0]
+            yield field.name, (field.shape.rust, zip(names, words)) if len(names) > 1 else one
 
 
 def steps_of(layout):
@@ -37,17 +48,6 @@ def antt(name):
     return '«%s»' % name if '_' in name or name in ('data', 'module', 'record') else name
 
 
-def values(step):
-    """What each of a step's fields is where all was read."""
-    at = 0
-    for field in step.fields:
-        names = field.shape.words or ('',)
-        words = ['%s[%d]' % (step.loaded, at + i) if step.row else field.name for i in range(len(names))]
-        at += len(names)
-        one = '%s(%s)' % (field.shape.rust, words[0]) if names[0] else words[0]
-        yield field.name, (field.shape.rust, zip(names, words)) if len(names) > 1 else one
-
-
 def literal(type, pairs, indent, before='', after=''):
     """The lines of a struct's value; a value of several lines is a type and its own pairs."""
     pad = ' ' * indent
@@ -60,24 +60,46 @@ def literal(type, pairs, indent, before='', after=''):
     return lines + [pad + '}' + after]
 
 
+def by_widths(layout, before, first, after):
+    """The lines of a call that goes by the widths of a fixed layout."""
+    given = [first, 's', 'b"%s"' % ''.join('\\x%02x' % field.shape.size for field in layout.fields), str(layout.size)]
+    if len(', '.join(given)) <= BROADEST:
+        return ['        %s(%s)%s' % (before, ', '.join(given), after)]
+    return ['        %s(' % before, *('            %s,' % one for one in given), '        )' + after]
+
+
+def load(layout):
+    """The lines of `load`: the fields of a fixed layout, each from its place."""
+    fields = [('outcome', 'r')] + [(f.name, 'load::be%d(s, %s)' % (8 * f.shape.size, at)) for f, at in zip(layout.fields, layout.offsets())]
+    return ['    fn load(r: Outcome, s: &[u8]) -> %s' % layout.type, '        requires { ⌜ %d ≤ length (now s) ⌝ }' % layout.size,
+            '        ensures { λ a. ⌜ (a .outcome ≡ r) × (%s a ≡ numbers (sizes-of %d) (now (s .entry)) 0) ⌝ }' % (layout.dashed, layout.format),
+            '    {', *literal(layout.type, fields, 8), '    }', '']
+
+
+def fixed_lines(layout):
+    """The lines that read a fixed layout, and those for where all of it was read."""
+    got = ['let at = row.at;', '%s::load(d.accepted(), &s[at..])' % layout.type]
+    return [*by_widths(layout, 'let row = widths::read', 'p', ';'), '        let passed = row.passed;'], [' ' * 16 + line for line in got]
+
+
+def step_lines(layout):
+    """The same of any other layout, step by step."""
+    read, (steps, rows) = [], steps_of(layout)
+    for i, step in enumerate(steps):
+        read += ['        let %s = %s;' % (step.name, step.call % ('passed' if i else 'p')), '        let passed = %s.passed;' % step.name]
+        read += ['        let %s = %s.%s;' % (name, step.name, value) for name, value in step.gives]
+    got = [('outcome', 'd.accepted()'), *(pair for step in steps for pair in step.values())]
+    loads = ['                let %s = field::load_words(s, %s.at, %d);' % (step.loaded, step.name, step.words) for step in rows]
+    return read, loads + literal(layout.type, got, 16) if rows else literal(layout.type, got, 12, 'Passed::Got(d) => ', ',')
+
+
 def parse(layout, stop):
     """The lines of `parse`, with these for a refusal."""
-    steps, rows = steps_of(layout)
-    lines = ['    pub fn parse(p: Passed, s: &[u8]) -> %s' % layout.type, '        requires { ⌜ Within (now s) p ⌝ }',
-             '        ensures { λ r. ⌜ Answers (layout-of %d %d) (now (s .entry)) p (r .outcome) (%s r) ⌝ }' % (layout.kind, layout.format, layout.dashed),
-             '    {']
-    for i, step in enumerate(steps):
-        lines += ['        let %s = %s;' % (step.name, step.call % ('passed' if i else 'p')), '        let passed = %s.passed;' % step.name]
-        lines += ['        let %s = %s.%s;' % (name, step.name, value) for name, value in step.gives]
-    lines += ['        match passed {', *stop]
-    got = [('outcome', 'd.accepted()'), *(pair for step in steps for pair in values(step))]
-    if rows:
-        lines.append('            Passed::Got(d) => {')
-        lines += ['                let %s = field::load_words(s, %s.at, %d);' % (step.loaded, step.name, step.words) for step in rows]
-        lines += [*literal(layout.type, got, 16), '            }']
-    else:
-        lines += literal(layout.type, got, 12, 'Passed::Got(d) => ', ',')
-    return lines + ['        }', '    }']
+    read, got = fixed_lines(layout) if layout.fixed else step_lines(layout)
+    got = got if 'Passed::Got' in got[0] else ['            Passed::Got(d) => {', *got, '            }']
+    answers = 'Answers (layout-of %d %d) (now (s .entry)) p (r .outcome) (%s r)' % (layout.kind, layout.format, layout.dashed)
+    return ['    pub fn parse(p: Passed, s: &[u8]) -> %s' % layout.type, '        requires { ⌜ Within (now s) p ⌝ }',
+            '        ensures { λ r. ⌜ %s ⌝ }' % answers, '    {', *read, '        match passed {', *stop, *got, '        }', '    }']
 
 
 def reader(layout):
@@ -86,18 +108,19 @@ def reader(layout):
     lines += ['    pub %s: %s,' % (f.name, f.shape.rust) for f in layout.fields] + ['}', '', 'impl %s {' % layout.type]
     zeros = [('outcome', 'r')] + [(f.name, f.shape.zero) for f in layout.fields]
     whole = parse(layout, literal(layout.type, zeros, 12, 'Passed::Stop(r) => ', ','))
-    if len(whole) <= LONGEST:
+    if len(whole) <= LONGEST and not layout.fixed:
         return lines + whole + ['}'], False
     runs = ['words %d ++ ' % step.words if step.words else step.fields[0].shape.term + ' ∷ ' for step in map(Step, layout.runs())]
     term = re.sub(r' \+\+ $', '', ''.join(runs)) if runs[-1].startswith('words') else ''.join(runs) + '[]'
     lines += ['    fn none(r: Outcome) -> %s' % layout.type,
               '        ensures { λ a. ⌜ (a .outcome ≡ r) × (%s a ≡ zeros (%s)) ⌝ }' % (layout.dashed, term), '    {', *literal(layout.type, zeros, 8), '    }', '']
+    lines += load(layout) if layout.fixed else []
     return lines + parse(layout, ['            Passed::Stop(r) => %s::none(r),' % layout.type]) + ['}'], True
 
 
 def needed(names, text):
     """Those of the names that the text has, each as a word."""
-    return [name for name in names if re.search(r'(?<![\w-])%s(?![\w-])' % re.escape(name.strip('_')), text)]
+    return [name for name in names if re.search(r'(?<![\w+-])%s(?![\w+-])' % re.escape(name.strip('_')), text)]
 
 
 def source(about, layouts):
@@ -106,23 +129,18 @@ def source(about, layouts):
     contracts = '\n'.join(line for line in body.splitlines() if '⌜' in line)
     cited = [(module, needed(names.split(), contracts)) for module, names in CITES.items()]
     cited.append(('Rattle.%s.specs.Shown' % layouts[0].crate, [one.dashed for one in layouts]))
-    uses = sorted(['layout::field'] + ['%s::%s' % (USES[name], name) for name in needed(USES, body)])
+    uses = sorted((['crate::widths', 'load'] if layouts[0].fixed else ['layout::field']) + ['%s::%s' % (USES[name], name) for name in needed(USES, body)])
     lines = ['// ' + MADE, '// ' + about, *('ghost use %s.{%s};' % (module, ', '.join(names)) for module, names in cited if names)]
     return '\n'.join(lines + ['use %s;' % name for name in uses]) + '\n' + body + '\n'
 
 
 def shown(layouts):
-    """The file that says what the readers' structs are in terms of the reading."""
+    """What the readers' structs are in terms of the reading."""
     body = ''
     for one in layouts:
         paths = [(f.shape.shown, antt(f.name) + (' .' + antt(name) if name else '')) for f in one.fields for name in f.shape.words or ('',)]
         body += '\nabbrev pub %s : %s → List Value\n%s r = %s ∷ []\n' % (one.dashed, one.type, one.dashed, ' ∷ '.join(show % path for show, path in paths))
-    lines = ['-- ' + MADE, "-- What this crate's records are in terms of the reading: the values of their fields, in the order of the layout. Assumes nothing.",
-             'use mathlib.Core.List.{List, [], _∷_}']
-    for module, names in (('reading.specs.Script', 'Value number octets part'), ('xdr.specs.Shown', 'span an-address')):
-        lines += ['use Rattle.%s.{%s}' % (module, ', '.join(names)) for names in [needed(names.split(), body)] if names]
-    lines += ['use Rattle.%s.specs.declared.%s.%s.{%s}' % (one.crate, one.file, one.type, one.type) for one in layouts]
-    return '\n'.join(lines) + '\n' + body
+    return ''.join('use Rattle·%(crate)s·specs.specs.declared.%(file)s.%(type)s.{%(type)s}\n' % vars(one) for one in layouts) + body + '\n'
 
 
 def goals(pairs):
@@ -130,43 +148,68 @@ def goals(pairs):
     count, lines = {}, []
     for found, name in pairs:
         count[name] = count.get(name, 0) + 1
-        lines.append('    (λ %s. search %s)  -- %s%s' % ('c κs' if name.endswith('requires') else 'c', found, name, '-%d' % count[name] if count[name] > 1 else ''))
+        lines.append('    (λ %s. %s)  -- %s%s' % ('c κs' if name.endswith('requires') else 'c', found, name, '-%d' % count[name] if count[name] > 1 else ''))
     return '\n'.join(lines) + '\n'
 
 
-def proof(layout):
-    """The proof of `parse`: a line for each thing that is to be shown, in the order of the code."""
+def proof_text(crate, function, uses, unfolding, shown):
+    """The file that proves a function, with what it uses and unfolds, and what is shown."""
+    path, name = 'Rattle.%s.proofs.%s' % (crate, function), function.rpartition('.')[2].replace('_', '-') + '-spec'
+    lines = ['-- ' + MADE, *uses, 'use %s.Statement.{statement}' % path, 'use %s.Tie as tie' % path, '', 'pub %s : {M : Type 1} → statement M' % name]
+    return '\n'.join(lines) + '\n%s%s =\n    tie.close\n    (tie.spec\n%s    )\n' % (unfolding, name, goals(shown))
+
+
+def proofs(layout):
+    """The proofs of a layout's functions: a line for each thing that is to be shown, in the order of the code."""
+    if layout.fixed:
+        return fixed_proofs(layout)
     (steps, rows), apart = steps_of(layout), reader(layout)[1]
-    path, table = 'Rattle.%s.proofs.%s.%s.parse' % (layout.crate, layout.file, layout.type), (None, 'samples', 'flows')[layout.kind]
-    shown = [('steps', step.call.partition('(')[0].split('::')[1] + '-requires') for step in steps] + [('steps', 'enum-known-passed')]
-    shown += [('steps', 'none-requires')] * apart + [('steps', 'enum-known-passed')] + [('places', 'load-words-requires')] * len(rows)
-    shown += [('steps', 'accepted-requires')] + [('steps', 'array-read')] * sum(step.words for step in rows) + [('rows', 'returns')] * 2
-    lines = ['-- ' + MADE, 'use Rattle.reading.specs.Layout.{%s}' % table, 'use Rattle.reading.specs.Answer.{layout-of}',
-             'use Rattle.layout.proofs.Chain.{steps, %srows}' % ('places, ' if rows else ''), 'use %s.Statement.{statement}' % path, 'use %s.Tie as tie' % path,
-             '', 'pub parse-spec : {M : Type 1} → statement M', 'unfolding layout-of ' + table, 'parse-spec =', '    tie.close', '    (tie.spec']
-    return '\n'.join(lines) + '\n' + goals(shown) + '    )\n'
+    shown = [('search steps', step.call.partition('(')[0].split('::')[1] + '-requires') for step in steps] + [('search steps', 'enum-known-passed')]
+    shown += [('search steps', 'none-requires')] * apart + [('search steps', 'enum-known-passed')] + [('search places', 'load-words-requires')] * len(rows)
+    shown += [('search steps', 'accepted-requires')] + [('search steps', 'array-read')] * sum(step.words for step in rows) + [('search rows', 'returns')] * 2
+    table, laws = (None, 'samples', 'flows')[layout.kind], 'steps, %srows' % ('places, ' if rows else '')
+    uses = ['use Rattle.reading.specs.Layout.{%s}' % table, 'use Rattle.reading.specs.Answer.{layout-of}', 'use Rattle.layout.proofs.Chain.{%s}' % laws]
+    return [('parse', proof_text(layout.crate, '%s.%s.parse' % (layout.file, layout.type), uses, 'unfolding layout-of %s\n' % table, shown))]
+
+
+def fixed_proofs(layout):
+    """Those of a fixed layout."""
+    uses = ['use mathlib.Core.Path.{refl}', 'use Rattle.reading.specs.Layout.{counters}', 'use Rattle.reading.specs.Answer.{layout-of}',
+            'use Rattle.xdr.proofs.Rows.{same-numbers}', 'use Rattle.counters.specs.Sizes.{sizes-of}',
+            'use Rattle.counters.proofs.Reading.{fixed-read, reads}']
+    names = '''slice-aggregate-read read-requires enum-known-passed none-requires enum-known-passed accepted-requires sub-load
+        part-load-start part-load-end load-requires returns'''
+    loads, numbers = ['be%d-requires' % (8 * field.shape.size) for field in layout.fields], '(refl, search same-numbers depth 30)'
+    for name, shown, last in ('load', loads, numbers), ('parse', names.split(), 'search (fixed-read (sizes-of %d))' % layout.format):
+        pairs = [('search reads', one) for one in shown] + [(last, 'returns')]
+        yield name, proof_text('counters', '%s.%s.%s' % (layout.file, layout.type, name), uses, 'unfolding layout-of sizes-of counters\n', pairs)
 
 
 def arm(layout):
     """How the framing passes a payload: an arm of its table."""
+    if layout.fixed:
+        return '\n'.join(by_widths(layout, '%d => widths::pass' % layout.format, 'c', ',')) + '\n'
     calls = ['.' + Step(run).passed for run in layout.runs()] + ['.passed']
-    broad = len('row' + ''.join(calls)) > 60  # more than `rt fmt` leaves a chain of calls
+    broad = len('row' + ''.join(calls)) > BROADEST
     return '        %d => row%s,\n' % (layout.format, ('\n            ' if broad else '').join(calls))
 
 
 def arms_proof(layouts):
     """What each arm asks, and what it answers; the last one is that of a number of no row."""
-    asked = [('passing', step.passed.partition('(')[0] + '-requires') for one in layouts for step in map(Step, one.runs())]
-    return goals(asked + [('(arm %d, passing)' % one.format, 'returns') for one in layouts] + [('raw', 'returns')])
+    asked = [('search passing', step.passed.partition('(')[0] + '-requires') for one in layouts for step in map(Step, one.runs())]
+    if layouts[0].fixed:
+        asked = [('search passing', name) for one in layouts for name in ('slice-aggregate-pass', 'pass-requires')]
+    return goals(asked + [('search (arm %d, passing)' % one.format, 'returns') for one in layouts] + [('search raw', 'returns')])
 
 
 def raw(layouts):
     """The law that a number of no row stays raw."""
     numbers = [layout.format for layout in layouts]
+    table, name = ('fixed-rows counters', 'counters') if layouts[0].fixed else ('flows (give nothing)', 'flows')
     return '''pub raw : (s : List ℕ) (c : Cursor) (f : ℕ) → %s
-    → got nothing (place c) ≡ follow (opened (flows (give nothing)) f) s (place c)
-unfolding opened flows follow
+    → got nothing (place c) ≡ follow (opened (%s) f) s (place c)
+unfolding opened %s follow
 raw s c f %s = simp (%s)
 
-''' % (' → '.join('(f ≡ %d → ⊥)' % n for n in numbers), ' '.join('z%d' % n for n in numbers),
+''' % (' → '.join('(f ≡ %d → ⊥)' % n for n in numbers), table, name, ' '.join('z%d' % n for n in numbers),
        ', '.join('ne-eqb %d f (λ e. z%d (sym e))' % (n, n) for n in numbers))

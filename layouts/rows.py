@@ -5,7 +5,7 @@ from itertools import groupby
 
 from shapes import SHAPES
 
-KINDS, CRATES = ('datagram', 'sample', 'flow record'), ('datagram', 'samples', 'flow_layouts')
+KINDS, CRATES = ('datagram', 'sample', 'flow record', 'counter record'), ('datagram', 'samples', 'flow_layouts', 'counters')
 DOCUMENTS = {'memo': 'sFlow Version 5', '802.11': 'sFlow 802.11 Structures', 'drops': 'sFlow Dropped Packet Notification Structures'}
 HELD = ('samples', 'flow records', 'counter records', 'PDUs')
 KEYWORDS = set('''alignas alignof auto bool break case catch char class const constexpr continue default delete do double else enum explicit export extern
@@ -28,7 +28,7 @@ def refuse(wrong, text, *values):
 class Layout:
     def __init__(self, kind, format, name):
         self.kind, self.format, self.name, self.fields, self.said = kind, format, name, [], {}
-        self.crate, self.dashed = CRATES[kind], name.replace('_', '-')
+        self.crate, self.dashed, self.fixed = CRATES[kind], name.replace('_', '-'), kind == 3
         self.type = ''.join(part.capitalize() for part in name.split('_'))
 
     def runs(self, by=()):
@@ -36,16 +36,27 @@ class Layout:
         for together, run in groupby(self.fields, lambda field: 'by' if field.name in by else bool(field.shape.words)):
             yield from [list(run)] if together else ([field] for field in run)
 
+    def offsets(self):
+        """Where each field begins: a number, or behind the last field before it whose size is not always the same."""
+        base, at = '', 0
+        for field in self.fields:
+            yield '%s%d' % (base, at)
+            base, at = (base, at + field.shape.size) if field.shape.size else ('`%s` + ' % field.name, 0)
+
     def finish(self):
         """What stands on the lines before its fields."""
         missing = [key for key in ('what', 'from', 'file') if key not in self.said]
         refuse(missing, '%s has no line `%s`', self.name, (missing + [''])[0])
         refuse(not self.fields, '%s has no fields', self.name)
-        refuse(any(sum(len(f.shape.words) for f in run) > 11 for run in self.runs()), '%s has more than 11 words one behind another', self.name)
+        long = not self.fixed and [1 for run in self.runs() if sum(len(f.shape.words) for f in run) > 11]
+        refuse(long, '%s has more than 11 words one behind another', self.name)
+        odd = [f.name for f in self.fields if self.fixed and f.shape not in (SHAPES['word'], SHAPES['u64'])]
+        refuse(odd, '%s: a counter record has words and u64s only, and %s is neither', self.name, ''.join(odd[:1]))
         self.what, self.holds, self.by = self.said['what'], self.said.get('holds'), self.said.get('by', '').split()
         apart = self.by and self.by[1:] not in [[field.name for field in run] for run in self.runs(self.by)]
         refuse(apart, '%s: the fields behind `by` do not stand one behind another', self.name)
-        refuse(len([*self.runs(self.by)]) > 4, '%s is read in more than 4 steps: let a reader of parts.rt read some fields, by a line `by`', self.name)
+        refuse(not self.fixed and len([*self.runs(self.by)]) > 4, '%s is read in more than 4 steps: let a reader of parts.rt read some fields, by a line `by`', self.name)
+        self.size = sum(field.shape.size for field in self.fields)
         self.file, self.by_hand = self.said['file'].split('  ')[0], self.said['file'].endswith('  by hand')
         self.document, _, self.parted = self.said['from'].partition(',')
         refuse(self.document not in DOCUMENTS, '%s is from `%s`; the documents are %s', self.name, self.document, ', '.join(DOCUMENTS))
@@ -65,10 +76,10 @@ def read_field(line, layout, known):
     refuse(shape not in SHAPES, '`%s` is no shape; the shapes are %s', shape, ', '.join(SHAPES))
     check_name(name, 'a field of ' + layout.name, [field.name for field in layout.fields])
     refuse(not meaning, '%s of %s: how it is shown, two blanks, and what it is are missing', name, layout.name)
-    only, say = SHAPES[shape].seen, 'say_' + seen.lower().replace('.', '').replace(' ', '_')
-    plain = only or seen in ('number', 'IPv4')
+    only, say = SHAPES[shape].seen, 'say_' + re.sub(r'\W', '_', seen.lower().replace('.', ''))
+    plain, type = only or seen in ('number', 'IPv4'), 'uint64_t' if shape == 'u64' else 'uint32_t'
     refuse(only and seen != only, '%s of %s is shown as `%s`; of this shape it is `%s`', name, layout.name, seen, only)
-    refuse(not plain and say not in known, '%s of %s is shown as `%s`; tools/names.h has no `%s`', name, layout.name, seen, say)
+    refuse(not plain and (say, type) not in known, '%s of %s is shown as `%s`; tools/names.h has no `%s(%s`', name, layout.name, seen, say, type)
     return Field(SHAPES[shape], name, seen, meaning, None if plain else say)
 
 
@@ -101,7 +112,7 @@ def read_line(line, files, layouts, known):
 
 
 def read(lines, known):
-    """The files with what they are, and the layouts. `known` are the functions that say what a number means."""
+    """The files with what they are, and the layouts. `known` are the functions that say what a number means, each with its type."""
     files, layouts, number = {}, [], 0
     try:
         for number, line in enumerate(lines, 1):
@@ -113,5 +124,5 @@ def read(lines, known):
         raise Refused('layouts/table:%d: %s' % (number, wrong)) from None
     for file in files:
         kinds = {one.kind for one in layouts if one.file == file and not one.by_hand}
-        refuse(kinds not in ({1}, {2}), 'layouts/table: the readers of the file `%s` are not all of samples, or all of flow records', file)
+        refuse(kinds not in ({1}, {2}, {3}), 'layouts/table: the readers of the file `%s` are not all of samples, of flow records or of counter records', file)
     return files, layouts

@@ -37,7 +37,7 @@ SHAPES = {
                                 'two words: format, value'),
     'version': number('u32', (), 'version', 'version', 'uint32_t', 'NUMBER', None, 'word, which is 5'),
     'protocol': number('u32', (), 'protocol', 'protocol', 'uint32_t', 'NUMBER', None, 'word, one of 1 to 17'),
-    'u64': number('u64', (), 'plain long', 'long', 'uint64_t', 'LONG', 'bit/s', 'u64'),
+    'u64': number('u64', (), 'plain long', 'long', 'uint64_t', 'LONG', None, 'u64'),
     'six': block(6, 'bytes six', 'mac', 'six', ', false', 'MAC', 'MAC', 6, '6 bytes'),
     'mac': block(6, 'mac', 'mac', 'six', ', true', 'MAC', 'MAC', 8, '6 bytes, and 2 that are read over'),
     'sixteen': block(16, 'bytes sixteen', 'block', 'sixteen', '', 'IPV6', 'IPv6', 16, '16 bytes'),

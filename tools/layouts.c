@@ -9,8 +9,9 @@
         into->what = latchplume_read_##what(data, length, descriptor);                                                \
     }
 
-#define FIELD(what, name, shape) {#name, shape, offsetof(latchplume_##what, name), NULL}
-#define SAID(what, name, shape, say) {#name, shape, offsetof(latchplume_##what, name), say}
+#define FIELD(what, name, shape) {#name, shape, offsetof(latchplume_##what, name), NULL, NULL}
+#define SAID(what, name, shape, say) {#name, shape, offsetof(latchplume_##what, name), say, NULL}
+#define SAID_LONG(what, name, shape, say) {#name, shape, offsetof(latchplume_##what, name), NULL, say}
 
 #define LAYOUT(kind, format, what, fields) {kind, format, #what, read_##what, fields, sizeof(fields) / sizeof *(fields)}
 
@@ -41,6 +42,12 @@ READ(extended_80211_payload)
 READ(extended_80211_rx)
 READ(extended_80211_tx)
 READ(extended_80211_aggregation)
+READ(generic_interface_counters)
+READ(ethernet_interface_counters)
+READ(token_ring_counters)
+READ(vg100_interface_counters)
+READ(vlan_counters)
+READ(processor_counters)
 
 static const struct field HEADER[] = {
     FIELD(header, version, NUMBER),
@@ -214,7 +221,7 @@ static const struct field EXTENDED_80211_RX[] = {
     FIELD(extended_80211_rx, bssid, MAC),
     SAID(extended_80211_rx, version, NUMBER, say_80211_version),
     FIELD(extended_80211_rx, channel, NUMBER),
-    FIELD(extended_80211_rx, speed, LONG),
+    SAID_LONG(extended_80211_rx, speed, LONG, say_bit_s),
     FIELD(extended_80211_rx, rsni, NUMBER),
     FIELD(extended_80211_rx, rcpi, NUMBER),
     SAID(extended_80211_rx, packet_duration, NUMBER, say_microseconds),
@@ -228,12 +235,105 @@ static const struct field EXTENDED_80211_TX[] = {
     SAID(extended_80211_tx, packet_duration, NUMBER, say_microseconds),
     SAID(extended_80211_tx, retrans_duration, NUMBER, say_microseconds),
     FIELD(extended_80211_tx, channel, NUMBER),
-    FIELD(extended_80211_tx, speed, LONG),
+    SAID_LONG(extended_80211_tx, speed, LONG, say_bit_s),
     SAID(extended_80211_tx, power, NUMBER, say_milliwatts),
 };
 
 static const struct field EXTENDED_80211_AGGREGATION[] = {
     FIELD(extended_80211_aggregation, pdu_count, NUMBER),
+};
+
+static const struct field GENERIC_INTERFACE_COUNTERS[] = {
+    FIELD(generic_interface_counters, if_index, NUMBER),
+    SAID(generic_interface_counters, if_type, NUMBER, say_iftype),
+    SAID_LONG(generic_interface_counters, if_speed, LONG, say_bit_s),
+    SAID(generic_interface_counters, if_direction, NUMBER, say_ifdirection),
+    SAID(generic_interface_counters, if_status, NUMBER, say_ifstatus),
+    SAID_LONG(generic_interface_counters, if_in_octets, LONG, say_octets),
+    SAID(generic_interface_counters, if_in_ucast_pkts, NUMBER, say_packets),
+    SAID(generic_interface_counters, if_in_multicast_pkts, NUMBER, say_packets),
+    SAID(generic_interface_counters, if_in_broadcast_pkts, NUMBER, say_packets),
+    SAID(generic_interface_counters, if_in_discards, NUMBER, say_packets),
+    SAID(generic_interface_counters, if_in_errors, NUMBER, say_packets),
+    SAID(generic_interface_counters, if_in_unknown_protos, NUMBER, say_packets),
+    SAID_LONG(generic_interface_counters, if_out_octets, LONG, say_octets),
+    SAID(generic_interface_counters, if_out_ucast_pkts, NUMBER, say_packets),
+    SAID(generic_interface_counters, if_out_multicast_pkts, NUMBER, say_packets),
+    SAID(generic_interface_counters, if_out_broadcast_pkts, NUMBER, say_packets),
+    SAID(generic_interface_counters, if_out_discards, NUMBER, say_packets),
+    SAID(generic_interface_counters, if_out_errors, NUMBER, say_packets),
+    SAID(generic_interface_counters, if_promiscuous_mode, NUMBER, say_truth_value),
+};
+
+static const struct field ETHERNET_INTERFACE_COUNTERS[] = {
+    SAID(ethernet_interface_counters, dot3_stats_alignment_errors, NUMBER, say_frames),
+    SAID(ethernet_interface_counters, dot3_stats_fcs_errors, NUMBER, say_frames),
+    SAID(ethernet_interface_counters, dot3_stats_single_collision_frames, NUMBER, say_frames),
+    SAID(ethernet_interface_counters, dot3_stats_multiple_collision_frames, NUMBER, say_frames),
+    SAID(ethernet_interface_counters, dot3_stats_sqe_test_errors, NUMBER, say_times),
+    SAID(ethernet_interface_counters, dot3_stats_deferred_transmissions, NUMBER, say_frames),
+    SAID(ethernet_interface_counters, dot3_stats_late_collisions, NUMBER, say_times),
+    SAID(ethernet_interface_counters, dot3_stats_excessive_collisions, NUMBER, say_frames),
+    SAID(ethernet_interface_counters, dot3_stats_internal_mac_transmit_errors, NUMBER, say_frames),
+    SAID(ethernet_interface_counters, dot3_stats_carrier_sense_errors, NUMBER, say_times),
+    SAID(ethernet_interface_counters, dot3_stats_frame_too_longs, NUMBER, say_frames),
+    SAID(ethernet_interface_counters, dot3_stats_internal_mac_receive_errors, NUMBER, say_frames),
+    SAID(ethernet_interface_counters, dot3_stats_symbol_errors, NUMBER, say_times),
+};
+
+static const struct field TOKEN_RING_COUNTERS[] = {
+    SAID(token_ring_counters, dot5_stats_line_errors, NUMBER, say_times),
+    SAID(token_ring_counters, dot5_stats_burst_errors, NUMBER, say_times),
+    SAID(token_ring_counters, dot5_stats_ac_errors, NUMBER, say_times),
+    SAID(token_ring_counters, dot5_stats_abort_trans_errors, NUMBER, say_times),
+    SAID(token_ring_counters, dot5_stats_internal_errors, NUMBER, say_times),
+    SAID(token_ring_counters, dot5_stats_lost_frame_errors, NUMBER, say_times),
+    SAID(token_ring_counters, dot5_stats_receive_congestions, NUMBER, say_times),
+    SAID(token_ring_counters, dot5_stats_frame_copied_errors, NUMBER, say_times),
+    SAID(token_ring_counters, dot5_stats_token_errors, NUMBER, say_times),
+    SAID(token_ring_counters, dot5_stats_soft_errors, NUMBER, say_times),
+    SAID(token_ring_counters, dot5_stats_hard_errors, NUMBER, say_times),
+    SAID(token_ring_counters, dot5_stats_signal_loss, NUMBER, say_times),
+    SAID(token_ring_counters, dot5_stats_transmit_beacons, NUMBER, say_times),
+    SAID(token_ring_counters, dot5_stats_recoverys, NUMBER, say_times),
+    SAID(token_ring_counters, dot5_stats_lobe_wires, NUMBER, say_times),
+    SAID(token_ring_counters, dot5_stats_removes, NUMBER, say_times),
+    SAID(token_ring_counters, dot5_stats_singles, NUMBER, say_times),
+    SAID(token_ring_counters, dot5_stats_freq_errors, NUMBER, say_times),
+};
+
+static const struct field VG100_INTERFACE_COUNTERS[] = {
+    SAID(vg100_interface_counters, dot12_in_high_priority_frames, NUMBER, say_frames),
+    SAID_LONG(vg100_interface_counters, dot12_in_high_priority_octets, LONG, say_octets),
+    SAID(vg100_interface_counters, dot12_in_norm_priority_frames, NUMBER, say_frames),
+    SAID_LONG(vg100_interface_counters, dot12_in_norm_priority_octets, LONG, say_octets),
+    SAID(vg100_interface_counters, dot12_in_ipm_errors, NUMBER, say_frames),
+    SAID(vg100_interface_counters, dot12_in_oversize_frame_errors, NUMBER, say_frames),
+    SAID(vg100_interface_counters, dot12_in_data_errors, NUMBER, say_frames),
+    SAID(vg100_interface_counters, dot12_in_null_addressed_frames, NUMBER, say_frames),
+    SAID(vg100_interface_counters, dot12_out_high_priority_frames, NUMBER, say_frames),
+    SAID_LONG(vg100_interface_counters, dot12_out_high_priority_octets, LONG, say_octets),
+    SAID(vg100_interface_counters, dot12_transition_into_trainings, NUMBER, say_times),
+    SAID_LONG(vg100_interface_counters, dot12_hc_in_high_priority_octets, LONG, say_octets),
+    SAID_LONG(vg100_interface_counters, dot12_hc_in_norm_priority_octets, LONG, say_octets),
+    SAID_LONG(vg100_interface_counters, dot12_hc_out_high_priority_octets, LONG, say_octets),
+};
+
+static const struct field VLAN_COUNTERS[] = {
+    FIELD(vlan_counters, vlan_id, NUMBER),
+    SAID_LONG(vlan_counters, octets, LONG, say_octets),
+    SAID(vlan_counters, ucast_pkts, NUMBER, say_packets),
+    SAID(vlan_counters, multicast_pkts, NUMBER, say_packets),
+    SAID(vlan_counters, broadcast_pkts, NUMBER, say_packets),
+    SAID(vlan_counters, discards, NUMBER, say_packets),
+};
+
+static const struct field PROCESSOR_COUNTERS[] = {
+    SAID(processor_counters, cpu_5s, NUMBER, say_percentage),
+    SAID(processor_counters, cpu_1m, NUMBER, say_percentage),
+    SAID(processor_counters, cpu_5m, NUMBER, say_percentage),
+    SAID_LONG(processor_counters, total_memory, LONG, say_memory),
+    SAID_LONG(processor_counters, free_memory, LONG, say_memory),
 };
 
 const struct layout LAYOUTS[] = {
@@ -263,6 +363,12 @@ const struct layout LAYOUTS[] = {
     LAYOUT(LATCHPLUME_FLOW_RECORD, 1014, extended_80211_rx, EXTENDED_80211_RX),
     LAYOUT(LATCHPLUME_FLOW_RECORD, 1015, extended_80211_tx, EXTENDED_80211_TX),
     LAYOUT(LATCHPLUME_FLOW_RECORD, 1016, extended_80211_aggregation, EXTENDED_80211_AGGREGATION),
+    LAYOUT(LATCHPLUME_COUNTER_RECORD, 1, generic_interface_counters, GENERIC_INTERFACE_COUNTERS),
+    LAYOUT(LATCHPLUME_COUNTER_RECORD, 2, ethernet_interface_counters, ETHERNET_INTERFACE_COUNTERS),
+    LAYOUT(LATCHPLUME_COUNTER_RECORD, 3, token_ring_counters, TOKEN_RING_COUNTERS),
+    LAYOUT(LATCHPLUME_COUNTER_RECORD, 4, vg100_interface_counters, VG100_INTERFACE_COUNTERS),
+    LAYOUT(LATCHPLUME_COUNTER_RECORD, 5, vlan_counters, VLAN_COUNTERS),
+    LAYOUT(LATCHPLUME_COUNTER_RECORD, 1001, processor_counters, PROCESSOR_COUNTERS),
 };
 /* made by layouts/make: to here */
 

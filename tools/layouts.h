@@ -24,8 +24,9 @@ enum shape {
 struct field {
     const char *name;
     enum shape shape;
-    size_t offset;         /* in the struct that the call answers */
-    void (*say)(uint32_t); /* what a number, or a word of a list, means; may be NULL */
+    size_t offset;              /* in the struct that the call answers */
+    void (*say)(uint32_t);      /* what a number, or a word of a list, means; may be NULL */
+    void (*say_long)(uint64_t); /* the same of a LONG */
 };
 
 /* What any of the calls answers; the outcome comes first in each. */
@@ -58,6 +59,12 @@ union reading {
     latchplume_extended_80211_rx extended_80211_rx;
     latchplume_extended_80211_tx extended_80211_tx;
     latchplume_extended_80211_aggregation extended_80211_aggregation;
+    latchplume_generic_interface_counters generic_interface_counters;
+    latchplume_ethernet_interface_counters ethernet_interface_counters;
+    latchplume_token_ring_counters token_ring_counters;
+    latchplume_vg100_interface_counters vg100_interface_counters;
+    latchplume_vlan_counters vlan_counters;
+    latchplume_processor_counters processor_counters;
     /* made by layouts/make: to here */
 };
 

@@ -1,8 +1,8 @@
--- Made by layouts/make from layouts/table.
 -- What this crate's records are in terms of the reading: the values of their fields, in the order of the layout. Assumes nothing.
 use mathlib.Core.List.{List, [], _∷_}
 use Rattle.reading.specs.Script.{Value, number, octets, part}
 use Rattle.xdr.specs.Shown.{span, an-address}
+-- made by layouts/make from layouts/table: from here
 use Rattle.flow_layouts.specs.declared.sampled.SampledHeader.{SampledHeader}
 use Rattle.flow_layouts.specs.declared.sampled.SampledEthernet.{SampledEthernet}
 use Rattle.flow_layouts.specs.declared.sampled.SampledIpv4.{SampledIpv4}
@@ -12,13 +12,13 @@ use Rattle.flow_layouts.specs.declared.extended.ExtendedRouter.{Extended
 use Rattle.flow_layouts.specs.declared.extended.ExtendedGateway.{ExtendedGateway}
 use Rattle.flow_layouts.specs.declared.extended.ExtendedUser.{ExtendedUser}
 use Rattle.flow_layouts.specs.declared.extended.ExtendedUrl.{ExtendedUrl}
-use Rattle.flow_layouts.specs.declared.extended.ExtendedNat.{ExtendedNat}
-use Rattle.flow_layouts.specs.declared.extended.ExtendedVlanTunnel.{ExtendedVlanTunnel}
 use Rattle.flow_layouts.specs.declared.mpls.ExtendedMpls.{ExtendedMpls}
+use Rattle.flow_layouts.specs.declared.extended.ExtendedNat.{ExtendedNat}
 use Rattle.flow_layouts.specs.declared.mpls.ExtendedMplsTunnel.{ExtendedMplsTunnel}
 use Rattle.flow_layouts.specs.declared.mpls.ExtendedMplsVc.{ExtendedMplsVc}
 use Rattle.flow_layouts.specs.declared.mpls.ExtendedMplsFec.{ExtendedMplsFec}
 use Rattle.flow_layouts.specs.declared.mpls.ExtendedMplsLvpFec.{ExtendedMplsLvpFec}
+use Rattle.flow_layouts.specs.declared.extended.ExtendedVlanTunnel.{ExtendedVlanTunnel}
 use Rattle.flow_layouts.specs.declared.wireless.Extended80211Payload.{Extended80211Payload}
 use Rattle.flow_layouts.specs.declared.wireless.Extended80211Rx.{Extended80211Rx}
 use Rattle.flow_layouts.specs.declared.wireless.Extended80211Tx.{Extended80211Tx}
@@ -51,14 +51,11 @@ extended-user r = number (r .«src_charset») ∷ part (span (r .«src_user»)) 
 abbrev pub extended-url : ExtendedUrl → List Value
 extended-url r = number (r .direction) ∷ part (span (r .url)) ∷ part (span (r .host)) ∷ []
 
-abbrev pub extended-nat : ExtendedNat → List Value
-extended-nat r = an-address (r .«src_address») ∷ an-address (r .«dst_address») ∷ []
-
-abbrev pub extended-vlan-tunnel : ExtendedVlanTunnel → List Value
-extended-vlan-tunnel r = part (span (r .stack)) ∷ []
-
 abbrev pub extended-mpls : ExtendedMpls → List Value
 extended-mpls r = an-address (r .«next_hop») ∷ part (span (r .«in_stack»)) ∷ part (span (r .«out_stack»)) ∷ []
+
+abbrev pub extended-nat : ExtendedNat → List Value
+extended-nat r = an-address (r .«src_address») ∷ an-address (r .«dst_address») ∷ []
 
 abbrev pub extended-mpls-tunnel : ExtendedMplsTunnel → List Value
 extended-mpls-tunnel r = part (span (r .«tunnel_lsp_name»)) ∷ number (r .«tunnel_id») ∷ number (r .«tunnel_cos») ∷ []
@@ -72,6 +69,9 @@ extended-mpls-fec r = an-address (r .«fec_addr_prefix») ∷ number (r .«fec_p
 abbrev pub extended-mpls-lvp-fec : ExtendedMplsLvpFec → List Value
 extended-mpls-lvp-fec r = number (r .«mpls_fec_addr_prefix_length») ∷ []
 
+abbrev pub extended-vlan-tunnel : ExtendedVlanTunnel → List Value
+extended-vlan-tunnel r = part (span (r .stack)) ∷ []
+
 abbrev pub extended-80211-payload : Extended80211Payload → List Value
 extended-80211-payload r = number (r .«cipher_suite») ∷ part (span (r .«data»)) ∷ []
 
@@ -83,3 +83,5 @@ extended-80211-tx r = part (span (r .ssid)) ∷ octets (r .bssid) ∷ number (r 
 
 abbrev pub extended-80211-aggregation : Extended80211Aggregation → List Value
 extended-80211-aggregation r = number (r .«pdu_count») ∷ []
+
+-- made by layouts/make: to here

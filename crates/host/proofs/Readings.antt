@@ -1,15 +1,16 @@
--- Made by layouts/make from layouts/table.
 -- What each field reading's own contract says of its result, as in `Contracts`: `s` is the input, `w` a descriptor's words. Assumes nothing.
 use denote.Ref.{now}
 use Rattle.xdr.specs.Shown.{answer-of}
 use Rattle.xdr.proofs.Settles.{Settles, settled}
+use Rattle.datagram.proofs.Lossless.{header-lossless}
+use Rattle.fields.specs.Shown.{read-at}
+use Rattle.host.proofs as call
+-- made by layouts/make from layouts/table: from here
+use Rattle.counters.specs.Shown.{generic-interface-counters, ethernet-interface-counters, token-ring-counters, vg100-interface-counters, vlan-counters, processor-counters}
 use Rattle.datagram.specs.Shown.{header-fields}
 use Rattle.flow_layouts.specs.Shown.{sampled-header, sampled-ethernet, sampled-ipv4, sampled-ipv6, extended-switch, extended-router, extended-gateway, extended-user, extended-url, extended-mpls, extended-nat, extended-mpls-tunnel, extended-mpls-vc, extended-mpls-fec, extended-mpls-lvp-fec, extended-vlan-tunnel, extended-80211-payload, extended-80211-rx, extended-80211-tx, extended-80211-aggregation}
 use Rattle.samples.specs.Shown.{flow-sample, counters-sample, flow-sample-expanded, counters-sample-expanded, discarded-packet}
-use Rattle.datagram.proofs.Lossless.{header-lossless}
-use Rattle.fields.specs.Shown.{read-at}
-use Rattle.host.proofs.Lossless.{flow-sample-lossless, counters-sample-lossless, flow-sample-expanded-lossless, counters-sample-expanded-lossless, discarded-packet-lossless, sampled-header-lossless, sampled-ethernet-lossless, sampled-ipv4-lossless, sampled-ipv6-lossless, extended-switch-lossless, extended-router-lossless, extended-gateway-lossless, extended-user-lossless, extended-url-lossless, extended-mpls-lossless, extended-nat-lossless, extended-mpls-tunnel-lossless, extended-mpls-vc-lossless, extended-mpls-fec-lossless, extended-mpls-lvp-fec-lossless, extended-vlan-tunnel-lossless, extended-80211-payload-lossless, extended-80211-rx-lossless, extended-80211-tx-lossless, extended-80211-aggregation-lossless}
-use Rattle.host.proofs as call
+use Rattle.host.proofs.Lossless.{flow-sample-lossless, counters-sample-lossless, flow-sample-expanded-lossless, counters-sample-expanded-lossless, discarded-packet-lossless, sampled-header-lossless, sampled-ethernet-lossless, sampled-ipv4-lossless, sampled-ipv6-lossless, extended-switch-lossless, extended-router-lossless, extended-gateway-lossless, extended-user-lossless, extended-url-lossless, extended-mpls-lossless, extended-nat-lossless, extended-mpls-tunnel-lossless, extended-mpls-vc-lossless, extended-mpls-fec-lossless, extended-mpls-lvp-fec-lossless, extended-vlan-tunnel-lossless, extended-80211-payload-lossless, extended-80211-rx-lossless, extended-80211-tx-lossless, extended-80211-aggregation-lossless, generic-interface-counters-lossless, ethernet-interface-counters-lossless, token-ring-counters-lossless, vg100-interface-counters-lossless, vlan-counters-lossless, processor-counters-lossless}
 
 module _ (κs s w : _) where
   pub read-header-settled : Settles (call.heads.latchplume_read_header.Reads.Learnt κs (s, (w, tt))) (λ r. answer-of (r .outcome) (header-fields r)) (read-at 0 0 (now s) (now w))
@@ -89,3 +90,23 @@ module _ (κs s w : _) where
 
   pub read-extended-80211-aggregation-settled : Settles (call.wireless.latchplume_read_extended_80211_aggregation.Reads.Learnt κs (s, (w, tt))) (λ r. answer-of (r .outcome) (extended-80211-aggregation r)) (read-at 2 1016 (now s) (now w))
   read-extended-80211-aggregation-settled = settled extended-80211-aggregation-lossless
+
+  pub read-generic-interface-counters-settled : Settles (call.polled.latchplume_read_generic_interface_counters.Reads.Learnt κs (s, (w, tt))) (λ r. answer-of (r .outcome) (generic-interface-counters r)) (read-at 3 1 (now s) (now w))
+  read-generic-interface-counters-settled = settled generic-interface-counters-lossless
+
+  pub read-ethernet-interface-counters-settled : Settles (call.polled.latchplume_read_ethernet_interface_counters.Reads.Learnt κs (s, (w, tt))) (λ r. answer-of (r .outcome) (ethernet-interface-counters r)) (read-at 3 2 (now s) (now w))
+  read-ethernet-interface-counters-settled = settled ethernet-interface-counters-lossless
+
+  pub read-token-ring-counters-settled : Settles (call.polled.latchplume_read_token_ring_counters.Reads.Learnt κs (s, (w, tt))) (λ r. answer-of (r .outcome) (token-ring-counters r)) (read-at 3 3 (now s) (now w))
+  read-token-ring-counters-settled = settled token-ring-counters-lossless
+
+  pub read-vg100-interface-counters-settled : Settles (call.polled.latchplume_read_vg100_interface_counters.Reads.Learnt κs (s, (w, tt))) (λ r. answer-of (r .outcome) (vg100-interface-counters r)) (read-at 3 4 (now s) (now w))
+  read-vg100-interface-counters-settled = settled vg100-interface-counters-lossless
+
+  pub read-vlan-counters-settled : Settles (call.polled.latchplume_read_vlan_counters.Reads.Learnt κs (s, (w, tt))) (λ r. answer-of (r .outcome) (vlan-counters r)) (read-at 3 5 (now s) (now w))
+  read-vlan-counters-settled = settled vlan-counters-lossless
+
+  pub read-processor-counters-settled : Settles (call.polled.latchplume_read_processor_counters.Reads.Learnt κs (s, (w, tt))) (λ r. answer-of (r .outcome) (processor-counters r)) (read-at 3 1001 (now s) (now w))
+  read-processor-counters-settled = settled processor-counters-lossless
+
+-- made by layouts/make: to here

@@ -13,6 +13,7 @@ pub mod heads;
 pub mod lists;
 pub mod mpls;
 pub mod payload;
+pub mod polled;
 pub mod sampled;
 pub mod wireless;
 

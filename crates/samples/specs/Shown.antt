@@ -1,7 +1,7 @@
--- Made by layouts/make from layouts/table.
 -- What this crate's records are in terms of the reading: the values of their fields, in the order of the layout. Assumes nothing.
 use mathlib.Core.List.{List, [], _∷_}
 use Rattle.reading.specs.Script.{Value, number}
+-- made by layouts/make from layouts/table: from here
 use Rattle.samples.specs.declared.heads.FlowSample.{FlowSample}
 use Rattle.samples.specs.declared.heads.CountersSample.{CountersSample}
 use Rattle.samples.specs.declared.heads.FlowSampleExpanded.{FlowSampleExpanded}
@@ -22,3 +22,5 @@ counters-sample-expanded r = number (r .«sequence_number») ∷ number (r .«so
 
 abbrev pub discarded-packet : DiscardedPacket → List Value
 discarded-packet r = number (r .«sequence_number») ∷ number (r .«source_id» .«source_id_type») ∷ number (r .«source_id» .«source_id_index») ∷ number (r .drops) ∷ number (r .«input_ifindex») ∷ number (r .«output_ifindex») ∷ number (r .reason) ∷ number (r .«num_records») ∷ []
+
+-- made by layouts/make: to here

@@ -5,7 +5,8 @@ use Rattle.host.proofs.extended.latchplume_read_extended_router.Tie as 
 
 pub latchplume-read-extended-router-spec : {M : Type 1} → statement M
 latchplume-read-extended-router-spec =
-    tie.close (tie.spec
+    tie.close
+    (tie.spec
     (λ c κs. search asked)  -- ask-requires
     (λ c. search asked)  -- slice-aggregate-parse
     (λ c κs. search asked)  -- parse-requires

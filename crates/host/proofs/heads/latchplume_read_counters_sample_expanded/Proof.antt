@@ -5,7 +5,8 @@ use Rattle.host.proofs.heads.latchplume_read_counters_sample_expanded.T
 
 pub latchplume-read-counters-sample-expanded-spec : {M : Type 1} → statement M
 latchplume-read-counters-sample-expanded-spec =
-    tie.close (tie.spec
+    tie.close
+    (tie.spec
     (λ c κs. search asked)  -- ask-requires
     (λ c. search asked)  -- slice-aggregate-parse
     (λ c κs. search asked)  -- parse-requires

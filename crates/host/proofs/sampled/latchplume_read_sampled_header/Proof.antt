@@ -5,7 +5,8 @@ use Rattle.host.proofs.sampled.latchplume_read_sampled_header.Tie as ti
 
 pub latchplume-read-sampled-header-spec : {M : Type 1} → statement M
 latchplume-read-sampled-header-spec =
-    tie.close (tie.spec
+    tie.close
+    (tie.spec
     (λ c κs. search asked)  -- ask-requires
     (λ c. search asked)  -- slice-aggregate-parse
     (λ c κs. search asked)  -- parse-requires

@@ -5,7 +5,8 @@ use Rattle.host.proofs.wireless.latchplume_read_extended_80211_aggregat
 
 pub latchplume-read-extended-80211-aggregation-spec : {M : Type 1} → statement M
 latchplume-read-extended-80211-aggregation-spec =
-    tie.close (tie.spec
+    tie.close
+    (tie.spec
     (λ c κs. search asked)  -- ask-requires
     (λ c. search asked)  -- slice-aggregate-parse
     (λ c κs. search asked)  -- parse-requires

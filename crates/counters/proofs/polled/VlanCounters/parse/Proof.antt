@@ -1,9 +1,12 @@
+-- Made by layouts/make from layouts/table.
+use mathlib.Core.Path.{refl}
 use Rattle.reading.specs.Layout.{counters}
 use Rattle.reading.specs.Answer.{layout-of}
+use Rattle.xdr.proofs.Rows.{same-numbers}
 use Rattle.counters.specs.Sizes.{sizes-of}
 use Rattle.counters.proofs.Reading.{fixed-read, reads}
-use Rattle.counters.proofs.interfaces.GenericInterfaceCounters.parse.Statement.{statement}
-use Rattle.counters.proofs.interfaces.GenericInterfaceCounters.parse.Tie as tie
+use Rattle.counters.proofs.polled.VlanCounters.parse.Statement.{statement}
+use Rattle.counters.proofs.polled.VlanCounters.parse.Tie as tie
 
 pub parse-spec : {M : Type 1} → statement M
 unfolding layout-of sizes-of counters
@@ -21,5 +24,5 @@ parse-spec =
     (λ c. search reads)  -- part-load-end
     (λ c κs. search reads)  -- load-requires
     (λ c. search reads)  -- returns
-    (λ c. search (fixed-read (sizes-of 1)))  -- returns-2
+    (λ c. search (fixed-read (sizes-of 5)))  -- returns-2
     )
