@@ -2,6 +2,8 @@
 
 #include "latchplume.h"
 
+#include <inttypes.h>
+#include <stdbool.h>
 #include <stdio.h>
 
 #define COUNT(table) (sizeof(table) / sizeof *(table))
@@ -81,17 +83,11 @@ static const struct {
     {LATCHPLUME_FLOW_RECORD, 0, 2209, "extended_tcp_info"},
     {LATCHPLUME_FLOW_RECORD, 0, 2210, "extended_entities"},
     {LATCHPLUME_FLOW_RECORD, 4413, 1, "extended_bst_egress_queue"},
-    {LATCHPLUME_COUNTER_RECORD, 0, 1, "generic_interface"},
-    {LATCHPLUME_COUNTER_RECORD, 0, 2, "ethernet_interface"},
-    {LATCHPLUME_COUNTER_RECORD, 0, 3, "token_ring"},
-    {LATCHPLUME_COUNTER_RECORD, 0, 4, "vg100_interface"},
-    {LATCHPLUME_COUNTER_RECORD, 0, 5, "vlan"},
     {LATCHPLUME_COUNTER_RECORD, 0, 6, "ieee80211"},
     {LATCHPLUME_COUNTER_RECORD, 0, 7, "lag_port_stats"},
     {LATCHPLUME_COUNTER_RECORD, 0, 8, "slow_path_counts"},
     {LATCHPLUME_COUNTER_RECORD, 0, 9, "infini_band_counters"},
     {LATCHPLUME_COUNTER_RECORD, 0, 10, "optical_sfp_qsfp"},
-    {LATCHPLUME_COUNTER_RECORD, 0, 1001, "processor"},
     {LATCHPLUME_COUNTER_RECORD, 0, 1002, "radio_utilization"},
     {LATCHPLUME_COUNTER_RECORD, 0, 1003, "queue_length"},
     {LATCHPLUME_COUNTER_RECORD, 0, 1004, "open_flow_port"},
@@ -153,6 +149,17 @@ static const char *const MORE_REASONS[] = {
     "mlag_port_isolation", "blackhole_arp_neigh", "src_mac_is_dmac", "dmac_is_reserved", "sip_is_class_e", "mc_dmac_mismatch",
     "sip_is_dip", "dip_is_local_network", "dip_is_link_local", "overlay_smac_is_dmac", "egress_vlan_filter",
     "uc_reverse_path_forwarding", "split_horizon",
+};
+
+/* Interface types that switches and routers have, of those that IANA gives. */
+static const struct {
+    uint32_t number;
+    const char *name;
+} INTERFACE_TYPES[] = {
+    {1, "other"}, {6, "ethernetCsmacd"}, {9, "iso88025TokenRing"}, {15, "fddi"}, {18, "ds1"}, {23, "ppp"}, {24, "softwareLoopback"},
+    {32, "frameRelay"}, {37, "atm"}, {39, "sonet"}, {53, "propVirtual"}, {54, "propMultiplexor"}, {55, "ieee80212"}, {62, "fastEther"},
+    {69, "fastEtherFX"}, {71, "ieee80211"}, {117, "gigabitEthernet"}, {131, "tunnel"}, {135, "l2vlan"}, {136, "l3ipvlan"},
+    {150, "mplsTunnel"}, {161, "ieee8023adLag"}, {166, "mpls"}, {209, "bridge"},
 };
 
 const char *name_of_number(uint32_t number)
@@ -303,4 +310,78 @@ void say_tag(uint32_t value)
 void say_community(uint32_t value)
 {
     printf(" (%u:%u)", (unsigned)(value >> 16), (unsigned)(value & 0xffff));
+}
+
+/* A number of things, or that it is not known. */
+static void say_count(const char *thing, bool known, bool one)
+{
+    if (known)
+        printf(" %s%s", thing, one ? "" : "s");
+    else
+        say("unknown");
+}
+
+void say_packets(uint32_t value)
+{
+    say_count("packet", value != UINT32_MAX, value == 1);
+}
+
+void say_frames(uint32_t value)
+{
+    say_count("frame", value != UINT32_MAX, value == 1);
+}
+
+void say_times(uint32_t value)
+{
+    say_count("time", value != UINT32_MAX, value == 1);
+}
+
+/* Hundredths of a percent. */
+void say_percentage(uint32_t value)
+{
+    if (value == UINT32_MAX)
+        say("unknown");
+    else
+        printf(" (%" PRIu32 ".%02" PRIu32 " %%)", value / 100, value % 100);
+}
+
+void say_truth_value(uint32_t value)
+{
+    if (value == 1 || value == 2)
+        say(value == 1 ? "true" : "false");
+}
+
+void say_iftype(uint32_t value)
+{
+    for (size_t i = 0; i < COUNT(INTERFACE_TYPES); i++)
+        if (INTERFACE_TYPES[i].number == value)
+            say(INTERFACE_TYPES[i].name);
+}
+
+void say_ifdirection(uint32_t value)
+{
+    static const char *const directions[] = {"unknown", "full-duplex", "half-duplex", "in", "out"};
+    if (value < COUNT(directions))
+        say(directions[value]);
+}
+
+void say_ifstatus(uint32_t value)
+{
+    printf(" (ifAdminStatus %s, ifOperStatus %s)", value & 1 ? "up" : "down", value & 2 ? "up" : "down");
+}
+
+void say_bit_s(uint64_t value)
+{
+    (void)value;
+    printf(" bit/s");
+}
+
+void say_octets(uint64_t value)
+{
+    say_count("octet", value != UINT64_MAX, value == 1);
+}
+
+void say_memory(uint64_t value)
+{
+    say_count("byte", value != UINT64_MAX, value == 1);
 }

@@ -29,6 +29,19 @@ void say_cipher_suite(uint32_t value);
 void say_label(uint32_t value);
 void say_tag(uint32_t value);
 void say_community(uint32_t value);
+void say_packets(uint32_t value);
+void say_frames(uint32_t value);
+void say_times(uint32_t value);
+void say_percentage(uint32_t value);
+void say_truth_value(uint32_t value);
+void say_iftype(uint32_t value);
+void say_ifdirection(uint32_t value);
+void say_ifstatus(uint32_t value);
+
+/* The same behind a u64. */
+void say_bit_s(uint64_t value);
+void say_octets(uint64_t value);
+void say_memory(uint64_t value);
 
 const char *name_of_source(uint32_t type);
 const char *name_of_segment(uint32_t kind);

@@ -13,6 +13,13 @@ static void number(const struct field *field, uint32_t value)
         field->say(value);
 }
 
+static void long_number(const struct field *field, uint64_t value)
+{
+    printf("%" PRIu64, value);
+    if (field->say_long)
+        field->say_long(value);
+}
+
 static void ipv4(uint32_t value)
 {
     uint8_t bytes[4] = {(uint8_t)(value >> 24), (uint8_t)(value >> 16), (uint8_t)(value >> 8), (uint8_t)value};
@@ -103,7 +110,7 @@ void value_print(const struct shown *s, unsigned level, const struct field *fiel
     printf("%s: ", field->name);
     switch (field->shape) {
     case NUMBER: number(field, *words); break;
-    case LONG: printf("%" PRIu64 " bit/s", *(const uint64_t *)at); break;
+    case LONG: long_number(field, *(const uint64_t *)at); break;
     case MAC: text_mac(at); break;
     case IPV4: ipv4(*words); break;
     case IPV6: text_ipv6(at); break;
