@@ -16,8 +16,8 @@ SESSIONS = [b"", P2, P3, P4, P5, P6, P7, P9, P11, P12, P12_DEEPER, P13, P9 + P2 
 # how the walk is compiled for a comparison with the library, and up to which length an input, its cuts and its changed bytes are tried
 HELD = (("", making.RELEASE, "as it is measured", 2000), ("-checked", making.CHECKED, "every access checked", 400))
 # what the oracle tries, at each run and where all is asked for
-SOME = (["200000", "1"], ["--strings"])
-ALL = (["2000000", "2"], ["--strings"], ["--every-byte"], ["--long"])
+SOME = (["200000", "1"], ["--counters"], ["--strings"])
+ALL = (["2000000", "2"], ["--counters"], ["--strings"], ["--every-byte"], ["--long"])
 
 
 def grown(count):

@@ -37,7 +37,7 @@ def refusals(endings):
 
 
 def targets(cases, times, counts, texts, growth, endings):
-    for name in ("typical", "nested"):
+    for name in ("typical", "nested", "counters"):
         ratio = times[name].over("crate", "ours")
         yield ratio >= LEAST_OF_CRATE, f"target: crate/ours on {name} is {ratio:.2f}, at least {LEAST_OF_CRATE}"
     for case in cases:

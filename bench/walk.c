@@ -1,6 +1,6 @@
 /* The walk: a first pass that judges the input and counts, and, where all is accepted and the store has room, a second one that goes by
    frames alone and writes. Records are one loop; only an aggregation calls deeper. A row of items is judged by one comparison, and what
-   agents send most, format 1 of samples and formats 1 and 1001 of records, is asked for first. */
+   agents send most, format 1 of samples, formats 1 and 1001 of flow records and 1 and 2 of counter records, is asked for first. */
 #include "walk.h"
 
 #include <string.h>
@@ -269,11 +269,48 @@ uint64_t aggregation(const uint8_t *at, size_t left, uint64_t count, unsigned de
     return c.count;
 }
 
+/* The layouts of counter records, whose items are words and blocks of eight bytes. */
+
+INLINE bool generic_interface(cursor *c) {
+    return row(c, 88, 19) || (words(c, 2) && block(c, 8) && words(c, 2) && block(c, 8) && words(c, 6) && block(c, 8) && words(c, 6));
+}
+
+INLINE bool vg100_interface(cursor *c) {
+    return row(c, 80, 14) || (words(c, 1) && block(c, 8) && words(c, 1) && block(c, 8) && words(c, 5) && block(c, 8) && words(c, 1) &&
+                              block(c, 8) && block(c, 8) && block(c, 8));
+}
+
+INLINE bool vlan(cursor *c) {
+    return row(c, 28, 6) || (words(c, 1) && block(c, 8) && words(c, 4));
+}
+
+INLINE bool processor(cursor *c) {
+    return row(c, 28, 5) || (words(c, 3) && block(c, 8) && block(c, 8));
+}
+
+INLINE bool counter_data(cursor *c, uint32_t format) {
+    if (OFTEN(format == 1))
+        return generic_interface(c);
+    if (OFTEN(format == 2))
+        return words(c, 13);
+    switch (format) {
+    case 3: return words(c, 18);
+    case 4: return vg100_interface(c);
+    case 5: return vlan(c);
+    case 1001: return processor(c);
+    default: return true;
+    }
+}
+
 INLINE bool counter_records(cursor *c, uint32_t n) {
     for (; n > 0; n--) {
         frame f;
         if (RARELY(!read_frame(c, &f)))
             return false;
+        cursor in = inside(c, &f);
+        if (RARELY(!counter_data(&in, f.format)))
+            return false;
+        c->count = in.count;
     }
     return true;
 }

@@ -88,10 +88,11 @@ def mixed_text(rng, length):
 
 
 def counters(rng):
-    """Counter samples as a switch sends them: an interface's counters, Ethernet's, and now and then the processor's."""
+    """Counter samples as a switch sends them: an interface's counters, Ethernet's, and now and then those of a VLAN or of the processor."""
     samples = []
     for number in range(6):
-        records = [frame(1, rng.randbytes(88)), frame(2, rng.randbytes(52))] + [frame(1001, rng.randbytes(28))] * (number % 3 == 0)
+        records = [frame(1, rng.randbytes(88)), frame(2, rng.randbytes(52))]
+        records += [frame(form, rng.randbytes(28)) for form in {0: [5, 1001], 1: [5]}.get(number % 3, [])]
         form, fields = (2, words(number, 7, len(records))) if number % 2 else (4, words(number, 0, 7, len(records)))
         samples.append(frame(form, fields + b"".join(records)))
     return header(len(samples)) + b"".join(samples)

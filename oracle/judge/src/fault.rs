@@ -7,7 +7,7 @@ use crate::shape::*;
 use crate::value::Value;
 
 /// What each fault does; the first is number 1. Those that begin with `pads` are for `--pads` to find: hardly any random input meets them.
-pub const FAULTS: [&str; 23] = [
+pub const FAULTS: [&str; 29] = [
     "code 2 is given four bytes too late",
     "an accepted datagram has a step too many",
     "the header's sequence number has its bytes turned round",
@@ -31,6 +31,12 @@ pub const FAULTS: [&str; 23] = [
     "a field reading gives code 7 one byte too late",
     "pads: an accepted datagram with rubbish in each of its pads, ten or more, has a step too many",
     "pads: the header's field reading takes in bytes behind the datagram, where there are 48 and none is zero",
+    "the octets in and out of an interface have changed places",
+    "a u64 of a counter record has lost its upper half",
+    "a counter record that is cut in a u64 is refused at the second word of that",
+    "a counter record of another enterprise is opened",
+    "a u64 of a counter record is two steps",
+    "a counter record with bytes left over is refused",
 ];
 
 pub struct Library {
@@ -47,6 +53,7 @@ impl Library {
         if self.fault == 22 && got.answer.code == 0 && has_rubbish_only(data) {
             got.answer.steps += 1;
         }
+        self.spoil_counters(data, &mut got.answer, store);
         got
     }
 
@@ -72,6 +79,11 @@ impl Library {
         }
         if self.fault == 23 && row == 0 {
             take_in_tail(data, descriptor, &mut values);
+        }
+        match (self.fault, LAYOUTS[row].kind, LAYOUTS[row].format) {
+            (24, COUNTER, 1) => values.swap(5, 12),
+            (25, COUNTER, _) => values.iter_mut().for_each(lose_upper_half),
+            _ => {}
         }
         (outcome, values)
     }
@@ -125,6 +137,38 @@ impl Library {
             (20, 7) => answer.at &= !3,
             _ => {}
         }
+    }
+
+    fn spoil_counters(&self, data: &[u8], answer: &mut Answer, store: &[u32]) {
+        let written = if answer.code == 0 { answer.needed * DESCRIPTOR_WORDS } else { 0 };
+        let counters = store[..written].chunks_exact(DESCRIPTOR_WORDS).filter(|words| words[0] == COUNTER);
+        // The layout that a record's number has in enterprise 0, whether that is its own, and how long it is.
+        let mut rows = counters.filter_map(|words| Some((layout_of(COUNTER, words[1] & 0xfff)?, words[1] < 4096, words[3] as usize)));
+        match (self.fault, answer.code) {
+            (26, 2) if is_cut_in_u64(data, answer.at) => answer.at += 4,
+            (27, 0) if rows.any(|(layout, own, length)| !own && length < layout.fixed_size()) => answer.code = 2,
+            (28, 0) => answer.steps += rows.filter(|row| row.1).map(|row| longs(row.0)).sum::<usize>(),
+            (29, 0) if rows.any(|(layout, own, length)| own && length > layout.fixed_size()) => answer.code = 2,
+            _ => {}
+        }
+    }
+}
+
+fn lose_upper_half(value: &mut Value) {
+    if let Value::Long(long) = value {
+        *long &= 0xffff_ffff;
+    }
+}
+
+fn longs(layout: &Layout) -> usize {
+    layout.shapes.iter().filter(|shape| **shape == Shape::Long).count()
+}
+
+/// Whether a datagram is refused at a u64 of a counter record of which a word is there.
+fn is_cut_in_u64(data: &[u8], at: usize) -> bool {
+    match paper::decode(data).within {
+        Some([COUNTER, _, start, length, ..]) => (start + length) as usize - at >= 4,
+        _ => false,
     }
 }
 

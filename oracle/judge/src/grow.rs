@@ -23,7 +23,7 @@ pub struct Grower<'a> {
 /// Words of formats that nobody opens: near ones that are opened, and those of other enterprises with the same number.
 const RAW_SAMPLES: [u32; 8] = [0, 6, 4095, 4097, 4300 << 12 | 1002, 4300 << 12 | 1003, 4300 << 12 | 1, u32::MAX];
 const RAW_FLOWS: [u32; 12] = [0, 5, 999, 1000, 1043, 4095, 4097, 1 << 12 | 1001, 4413 << 12 | 2, 5703 << 12 | 1, 1 << 31 | 1016, u32::MAX];
-const RAW_COUNTERS: [u32; 9] = [0, 11, 1000, 1006, 2205, 4095, 4097, 4413 << 12 | 4, u32::MAX];
+const RAW_COUNTERS: [u32; 12] = [0, 11, 1000, 1006, 2205, 4095, 4097, 1 << 12 | 5, 1 << 12 | 1001, 4413 << 12 | 4, 1 << 31 | 2, u32::MAX];
 
 impl Grower<'_> {
     fn goes_wrong(&mut self) -> bool {
@@ -89,9 +89,20 @@ impl Grower<'_> {
         self.sample_of(format, reach)
     }
 
-    fn sample_of(&mut self, format: u32, reach: u32) -> Frame {
+    /// The fields of a sample before the count of its records.
+    fn fields_of(&mut self, format: u32) -> Vec<Item> {
         let shapes = layout_of(SAMPLE, format).unwrap().shapes;
-        let fields = (1..shapes.len()).map(|_| Item::Word(self.random.word())).collect();
+        (1..shapes.len()).map(|_| Item::Word(self.random.word())).collect()
+    }
+
+    /// A sample of these records, which are counted right.
+    pub fn sample_with(&mut self, format: u32, items: Vec<Frame>) -> Frame {
+        let fields = self.fields_of(format);
+        self.frame(format, Body::Records(fields, Counted { said: None, items }))
+    }
+
+    fn sample_of(&mut self, format: u32, reach: u32) -> Frame {
+        let fields = self.fields_of(format);
         let mut records: Vec<Frame> = (0..self.random.below(4)).map(|_| self.record(format, 1)).collect();
         if reach > 0 {
             let deep = self.deep(1, reach);
@@ -106,34 +117,34 @@ impl Grower<'_> {
         if self.plan.outside && self.random.chance(1, 4) {
             return self.opened_by_the_crate(kind);
         }
-        if kind == COUNTER || self.random.chance(1, 9) {
+        if self.random.chance(1, 9) {
             let format = if kind == COUNTER { self.random.pick(&RAW_COUNTERS) } else { self.random.pick(&RAW_FLOWS) };
             let length = self.random.below(24);
             let bytes = self.random.bytes(length);
             return self.frame(format, Body::Raw(bytes));
         }
-        let flows: Vec<&Layout> = LAYOUTS.iter().filter(|row| row.kind == FLOW).collect();
-        let layout = flows[self.random.below(flows.len())];
-        self.flow(layout, depth)
+        let rows: Vec<&Layout> = LAYOUTS.iter().filter(|row| row.kind == kind).collect();
+        let layout = rows[self.random.below(rows.len())];
+        self.opened_record(layout, depth)
     }
 
-    /// A flow record of a format that is opened.
-    fn flow(&mut self, layout: &Layout, depth: u32) -> Frame {
-        if layout.format == AGGREGATION {
+    /// A record of a format that is opened.
+    fn opened_record(&mut self, layout: &Layout, depth: u32) -> Frame {
+        if (layout.kind, layout.format) == (FLOW, AGGREGATION) {
             return self.aggregation(depth);
         }
         let items = layout.shapes.iter().map(|shape| self.item(*shape)).collect();
         self.frame(layout.format, Body::Items(items))
     }
 
-    /// A datagram with one sample or one flow record of the layout.
+    /// A datagram with one sample or one record of the layout.
     pub fn datagram_of(&mut self, layout: &Layout) -> Datagram {
         let sample = match layout.kind {
             SAMPLE => self.sample_of(layout.format, 0),
-            FLOW => {
-                let record = self.flow(layout, 1);
-                let fields = (0..7).map(|_| Item::Word(self.random.word())).collect();
-                self.frame(1, Body::Records(fields, Counted { said: None, items: vec![record] }))
+            FLOW | COUNTER => {
+                let record = self.opened_record(layout, 1);
+                let format = if layout.kind == FLOW { 1 } else { self.random.pick(&[2, 4]) };
+                self.sample_with(format, vec![record])
             }
             _ => self.sample(),
         };
@@ -223,7 +234,7 @@ impl Grower<'_> {
                 Item::Word(if wrong { self.random.pick(&[0, 18, 19, 20, 0x0100_0000, u32::MAX]) } else { 1 + self.random.below(17) as u32 })
             }
             Shape::Word => Item::Word(self.random.word()),
-            Shape::Long => Item::Long(self.random.next()),
+            Shape::Long => Item::Long(self.random.long()),
             Shape::Six => Item::Block(self.random.bytes(6)),
             Shape::SixOfEight => Item::Block(self.random.bytes(8)),
             Shape::Sixteen => Item::Block(self.random.bytes(16)),

@@ -1,6 +1,7 @@
 //! The comparison of the library with the crate; see ../../run. A fuzzer in C calls `oracle_judge`.
 
 pub mod compare;
+pub mod counters;
 pub mod fault;
 mod grow;
 pub mod library;

@@ -206,6 +206,40 @@ structs! {
         retrans_duration: u32, channel: u32, speed: u64, power: u32,
     }
     Extended80211Aggregation latchplume_extended_80211_aggregation { outcome: Outcome, pdu_count: u32, }
+    GenericInterfaceCounters latchplume_generic_interface_counters {
+        outcome: Outcome, if_index: u32, if_type: u32, if_speed: u64, if_direction: u32, if_status: u32, if_in_octets: u64,
+        if_in_ucast_pkts: u32, if_in_multicast_pkts: u32, if_in_broadcast_pkts: u32, if_in_discards: u32, if_in_errors: u32,
+        if_in_unknown_protos: u32, if_out_octets: u64, if_out_ucast_pkts: u32, if_out_multicast_pkts: u32,
+        if_out_broadcast_pkts: u32, if_out_discards: u32, if_out_errors: u32, if_promiscuous_mode: u32,
+    }
+    EthernetInterfaceCounters latchplume_ethernet_interface_counters {
+        outcome: Outcome, dot3_stats_alignment_errors: u32, dot3_stats_fcs_errors: u32,
+        dot3_stats_single_collision_frames: u32, dot3_stats_multiple_collision_frames: u32, dot3_stats_sqe_test_errors: u32,
+        dot3_stats_deferred_transmissions: u32, dot3_stats_late_collisions: u32, dot3_stats_excessive_collisions: u32,
+        dot3_stats_internal_mac_transmit_errors: u32, dot3_stats_carrier_sense_errors: u32, dot3_stats_frame_too_longs: u32,
+        dot3_stats_internal_mac_receive_errors: u32, dot3_stats_symbol_errors: u32,
+    }
+    TokenRingCounters latchplume_token_ring_counters {
+        outcome: Outcome, dot5_stats_line_errors: u32, dot5_stats_burst_errors: u32, dot5_stats_ac_errors: u32,
+        dot5_stats_abort_trans_errors: u32, dot5_stats_internal_errors: u32, dot5_stats_lost_frame_errors: u32,
+        dot5_stats_receive_congestions: u32, dot5_stats_frame_copied_errors: u32, dot5_stats_token_errors: u32,
+        dot5_stats_soft_errors: u32, dot5_stats_hard_errors: u32, dot5_stats_signal_loss: u32,
+        dot5_stats_transmit_beacons: u32, dot5_stats_recoverys: u32, dot5_stats_lobe_wires: u32, dot5_stats_removes: u32,
+        dot5_stats_singles: u32, dot5_stats_freq_errors: u32,
+    }
+    Vg100InterfaceCounters latchplume_vg100_interface_counters {
+        outcome: Outcome, dot12_in_high_priority_frames: u32, dot12_in_high_priority_octets: u64,
+        dot12_in_norm_priority_frames: u32, dot12_in_norm_priority_octets: u64, dot12_in_ipm_errors: u32,
+        dot12_in_oversize_frame_errors: u32, dot12_in_data_errors: u32, dot12_in_null_addressed_frames: u32,
+        dot12_out_high_priority_frames: u32, dot12_out_high_priority_octets: u64, dot12_transition_into_trainings: u32,
+        dot12_hc_in_high_priority_octets: u64, dot12_hc_in_norm_priority_octets: u64, dot12_hc_out_high_priority_octets: u64,
+    }
+    VlanCounters latchplume_vlan_counters {
+        outcome: Outcome, vlan_id: u32, octets: u64, ucast_pkts: u32, multicast_pkts: u32, broadcast_pkts: u32, discards: u32,
+    }
+    ProcessorCounters latchplume_processor_counters {
+        outcome: Outcome, cpu_5s: u32, cpu_1m: u32, cpu_5m: u32, total_memory: u64, free_memory: u64,
+    }
 }
 
 /// The field readings, by their row of `shape::LAYOUTS`.
@@ -263,6 +297,12 @@ readings! {
     23 Extended80211Rx latchplume_extended_80211_rx latchplume_read_extended_80211_rx;
     24 Extended80211Tx latchplume_extended_80211_tx latchplume_read_extended_80211_tx;
     25 Extended80211Aggregation latchplume_extended_80211_aggregation latchplume_read_extended_80211_aggregation;
+    26 GenericInterfaceCounters latchplume_generic_interface_counters latchplume_read_generic_interface_counters;
+    27 EthernetInterfaceCounters latchplume_ethernet_interface_counters latchplume_read_ethernet_interface_counters;
+    28 TokenRingCounters latchplume_token_ring_counters latchplume_read_token_ring_counters;
+    29 Vg100InterfaceCounters latchplume_vg100_interface_counters latchplume_read_vg100_interface_counters;
+    30 VlanCounters latchplume_vlan_counters latchplume_read_vlan_counters;
+    31 ProcessorCounters latchplume_processor_counters latchplume_read_processor_counters;
 }
 
 extern "C" {

@@ -27,14 +27,14 @@ fn records(items: Vec<Frame>, said: Option<u32>) -> Counted<Frame> {
 }
 
 /// P2's header, and one sample of this format whose fields are 0.
-fn datagram(format: u32, fields: usize, items: Vec<Frame>) -> Vec<u8> {
+pub fn datagram(format: u32, fields: usize, items: Vec<Frame>) -> Vec<u8> {
     let fields = (0..fields).map(|_| Item::Word(0)).collect();
     let sample = frame(format, Body::Records(fields, records(items, None)));
     let samples = Counted { said: None, items: vec![sample] };
     Datagram { version: 5, agent: Item::Address(0, Vec::new()), words: [0, 1, 0], samples }.bytes()
 }
 
-fn raw(format: u32, words: &[u32], more: &[u8]) -> Frame {
+pub fn raw(format: u32, words: &[u32], more: &[u8]) -> Frame {
     let bytes: Vec<u8> = words.iter().flat_map(|word| word.to_be_bytes()).chain(more.iter().copied()).collect();
     frame(format, Body::Raw(bytes))
 }
@@ -111,7 +111,7 @@ fn opened() -> Vec<Row> {
         kept_raw("flow record 1038, its string not UTF-8", flow(1038, &[1], bad), 7),
         kept_raw("flow record 2001, its length above the longest opaque", flow(2001, &[long], &[]), 5),
         refused("flow record 1017, empty, and a fault behind it", flows(vec![raw(1017, &[], &[]), unknown]), (6, 80), 2, (0, 0)),
-        kept_raw("counter record 1, empty", counter(raw(1, &[], &[])), 2),
+        kept_raw("counter record 6, empty", counter(raw(6, &[], &[])), 2),
         kept_raw("counter record 3002, as the crate takes it", counter(raw(3002, &[7], &[])), 0),
         kept_raw("counter record 1005, its string not UTF-8", counter(raw(1005, &[1], bad)), 7),
         kept_raw("counter record 1005, its length above the longest opaque", counter(raw(1005, &[long], &[])), 5),

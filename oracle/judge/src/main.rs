@@ -1,12 +1,12 @@
 //! Compares the library with the crate; see ../../run.
 
 use judge::tally::Tally;
-use judge::{compare, fault, library, listed, make, pads, stored, strings, sweep, work};
+use judge::{compare, counters, fault, library, listed, make, pads, stored, strings, sweep, work};
 use std::path::{Path, PathBuf};
 use std::process::exit;
 
 const USAGE: &str =
-    "usage: judge N SEED | --every-byte | --strings | --every-string | --long | --pads N SEED | --input HEX | --files PATH... |
+    "usage: judge N SEED | --every-byte | --counters | --strings | --every-string | --long | --pads N SEED | --input HEX | --files PATH... |
        --store SEED INTO PATH... | --c-checks | --list-faults, each with [--fault K]";
 
 /// From so many cases on, every format, code and class must have been reached.
@@ -85,6 +85,7 @@ fn main() {
         ["--listed"] => return listed::show(),
         ["--list-faults"] => return fault::FAULTS.iter().for_each(|what| println!("{what}")),
         ["--every-byte"] => sweep::every_byte(fault),
+        ["--counters"] => counters::all(fault),
         ["--strings"] => strings::all(fault),
         ["--every-string"] => strings::every(fault),
         ["--long"] => sweep::long(fault),

@@ -149,6 +149,7 @@ pub enum Place {
     Sample(u32),
     RecordFrame(u32),
     Flow(u32),
+    Counter(u32),
     PduCount,
 }
 
@@ -268,12 +269,12 @@ impl<'a> Reader<'a> {
 
     fn record_fields(&mut self, kind: u32, format: u32, own: u32, depth: u32) -> Read<()> {
         let Some(layout) = layout_of(kind, format) else { return Ok(()) };
-        self.place = Place::Flow(format);
+        self.place = if kind == COUNTER { Place::Counter(format) } else { Place::Flow(format) };
         let mut last = Value::Word(0);
         for shape in layout.shapes {
             last = self.cursor.item(*shape)?;
         }
-        if format == AGGREGATION {
+        if (kind, format) == (FLOW, AGGREGATION) {
             for _ in 0..last_word(&[last]) {
                 self.pdu(own, depth)?;
             }
@@ -298,7 +299,7 @@ impl<'a> Reader<'a> {
         let Cursor { steps, text, pads, .. } = self.cursor;
         let Reader { place, opened, at_limit, .. } = self;
         // A sample's or record's fields come before anything that is in it.
-        let in_fields = code != 0 && matches!(place, Place::Sample(_) | Place::Flow(_));
+        let in_fields = code != 0 && matches!(place, Place::Sample(_) | Place::Flow(_) | Place::Counter(_));
         let within = self.store.last().copied().filter(|_| in_fields);
         let (store, header, pads) = if code == 0 { (self.store, self.header, pads) } else { (Vec::new(), Vec::new(), Vec::new()) };
         Reading { code, at, steps, store, header, place, opened, at_limit, text, within, pads }

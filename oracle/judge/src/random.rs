@@ -47,4 +47,15 @@ impl Random {
             _ => (self.next() >> 32) as u32,
         }
     }
+
+    /// A u64 likewise.
+    pub fn long(&mut self) -> u64 {
+        const EDGES: [u64; 8] =
+            [0, 1, 0xffff_ffff, 0x1_0000_0000, 0x7fff_ffff_ffff_ffff, 0x8000_0000_0000_0000, u64::MAX, 0x0102_0304_0506_0708];
+        match self.below(4) {
+            0 => self.below(320) as u64,
+            1 => self.pick(&EDGES),
+            _ => self.next(),
+        }
+    }
 }

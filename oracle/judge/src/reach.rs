@@ -17,6 +17,7 @@ pub fn count(tally: &mut Tally, reading: &Reading, run: &Reading) {
         match (*kind, layout_of(*kind, *format)) {
             (SAMPLE, Some(_)) => tally.reach(Key::Sample(*format)),
             (FLOW, Some(_)) => tally.reach(Key::Flow(*format)),
+            (COUNTER, Some(_)) => tally.reach(Key::Counter(*format)),
             (DATAGRAM | PDU, _) => {}
             (kind, _) => tally.reach(Key::Raw(kind)),
         }
@@ -43,13 +44,13 @@ pub fn see(tally: &mut Tally, data: &[u8], reading: &Reading) {
         if matches!(kind, SAMPLE | FLOW | COUNTER) && data[end..end + pad].iter().any(|byte| *byte != 0) {
             tally.reach(Key::Seen(RUBBISH));
         }
-        if let (FLOW, Some(layout)) = (kind, layout_of(kind, format)) {
-            see_flow(tally, data, descriptor, layout);
+        if let (FLOW | COUNTER, Some(layout)) = (kind, layout_of(kind, format)) {
+            see_record(tally, data, descriptor, layout);
         }
     }
 }
 
-fn see_flow(tally: &mut Tally, data: &[u8], descriptor: &Descriptor, layout: &Layout) {
+fn see_record(tally: &mut Tally, data: &[u8], descriptor: &Descriptor, layout: &Layout) {
     let ((_, at, _), values) = paper::fields(data, descriptor, layout);
     if layout.format != AGGREGATION && at < (descriptor[2] + descriptor[3]) as usize {
         tally.reach(Key::Seen(LEFT));

@@ -20,10 +20,28 @@ pub enum Shape {
     Path,
 }
 
+impl Shape {
+    /// The bytes of an item of a counter record.
+    pub fn fixed_size(&self) -> usize {
+        if *self == Shape::Long {
+            8
+        } else {
+            4
+        }
+    }
+}
+
 pub struct Layout {
     pub kind: u32,
     pub format: u32,
     pub shapes: &'static [Shape],
+}
+
+impl Layout {
+    /// The bytes of a counter record.
+    pub fn fixed_size(&self) -> usize {
+        self.shapes.iter().map(Shape::fixed_size).sum()
+    }
 }
 
 use Shape::*;
@@ -51,7 +69,7 @@ pub const DESCRIPTOR_WORDS: usize = 7;
 pub type Descriptor = [u32; DESCRIPTOR_WORDS];
 
 /// The last word of a sample's row is the count of its records; that of 1016 the count of its PDUs.
-pub const LAYOUTS: [Layout; 26] = [
+pub const LAYOUTS: [Layout; 32] = [
     row(DATAGRAM, 0, &[Version, Address, Word, Word, Word, Word]),
     row(SAMPLE, 1, &[Word; 8]),
     row(SAMPLE, 2, &[Word; 3]),
@@ -78,6 +96,12 @@ pub const LAYOUTS: [Layout; 26] = [
     row(FLOW, 1014, &[Text, SixOfEight, Word, Word, Long, Word, Word, Word]),
     row(FLOW, 1015, &[Text, SixOfEight, Word, Word, Word, Word, Word, Long, Word]),
     row(FLOW, AGGREGATION, &[Word]),
+    row(COUNTER, 1, &[Word, Word, Long, Word, Word, Long, Word, Word, Word, Word, Word, Word, Long, Word, Word, Word, Word, Word, Word]),
+    row(COUNTER, 2, &[Word; 13]),
+    row(COUNTER, 3, &[Word; 18]),
+    row(COUNTER, 4, &[Word, Long, Word, Long, Word, Word, Word, Word, Word, Long, Word, Long, Long, Long]),
+    row(COUNTER, 5, &[Word, Long, Word, Word, Word, Word]),
+    row(COUNTER, 1001, &[Word, Word, Word, Long, Long]),
 ];
 
 /// The row of a descriptor's kind and format word; none for what stays raw and for PDUs.
@@ -96,7 +120,7 @@ pub fn only_the_crate_opens(kind: u32, format: u32) -> bool {
     match (kind, enterprise) {
         (FLOW, 0) => matches!(number, 1017..=1042 | 2000..=2003 | 2100..=2103 | 2200..=2210),
         (FLOW, 4413) => number == 1,
-        (COUNTER, 0) => matches!(number, 1..=10 | 1001..=1005 | 2000..=2010 | 2100..=2106 | 2200..=2204 | 2206 | 2207 | 3000..=3003),
+        (COUNTER, 0) => matches!(number, 6..=10 | 1002..=1005 | 2000..=2010 | 2100..=2106 | 2200..=2204 | 2206 | 2207 | 3000..=3003),
         (COUNTER, 4413) => matches!(number, 1..=3),
         (COUNTER, 5703) => number == 1,
         _ => false,

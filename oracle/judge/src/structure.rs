@@ -4,6 +4,7 @@ use crate::shape::*;
 use crate::value::{sixteen, Value};
 use sflow_parser::models::core::{Address, CounterData, CounterRecord, DropReason, FlowData, FlowRecord, SFlowDatagram};
 use sflow_parser::models::core::{SampleData, SampleRecord};
+use sflow_parser::models::record_counters::{GenericInterfaceCounters, TokenRingCounters, Vg100InterfaceCounters};
 use sflow_parser::models::record_flows::{AsPathSegment, HeaderProtocol, UrlDirection};
 
 /// A field as the crate holds it.
@@ -126,9 +127,13 @@ fn sample_fields(data: &SampleData) -> Vec<Held<'_>> {
 
 fn add_counter<'a>(record: &'a CounterRecord, parent: u32, all: &mut Vec<Node<'a>>) {
     let own = add(all, COUNTER, record.counter_format.0, parent, 1);
+    let node = &mut all[own as usize];
     match &record.counter_data {
-        CounterData::Unknown { data, .. } => all[own as usize].raw = Some(data),
-        _ => all[own as usize].opened = true,
+        CounterData::Unknown { data, .. } => node.raw = Some(data),
+        data => match counter_fields(data) {
+            Some(held) => node.held = held,
+            None => node.opened = true,
+        },
     }
 }
 
@@ -226,4 +231,85 @@ fn wireless_fields(data: &FlowData) -> Option<Vec<Held<'_>>> {
         }
         _ => return None,
     })
+}
+
+/// Counter formats 1 to 5 and 1001.
+fn counter_fields(data: &CounterData) -> Option<Vec<Held<'_>>> {
+    use Held::*;
+    Some(match data {
+        CounterData::GenericInterface(r) => generic_interface_fields(r),
+        CounterData::EthernetInterface(r) => words(&[
+            r.dot3_stats_alignment_errors,
+            r.dot3_stats_fcs_errors,
+            r.dot3_stats_single_collision_frames,
+            r.dot3_stats_multiple_collision_frames,
+            r.dot3_stats_sqe_test_errors,
+            r.dot3_stats_deferred_transmissions,
+            r.dot3_stats_late_collisions,
+            r.dot3_stats_excessive_collisions,
+            r.dot3_stats_internal_mac_transmit_errors,
+            r.dot3_stats_carrier_sense_errors,
+            r.dot3_stats_frame_too_longs,
+            r.dot3_stats_internal_mac_receive_errors,
+            r.dot3_stats_symbol_errors,
+        ]),
+        CounterData::TokenRing(r) => token_ring_fields(r),
+        CounterData::Vg100Interface(r) => vg100_interface_fields(r),
+        CounterData::Vlan(r) => {
+            let mut held = vec![Word(r.vlan_id), Long(r.octets)];
+            held.extend(words(&[r.ucast_pkts, r.multicast_pkts, r.broadcast_pkts, r.discards]));
+            held
+        }
+        CounterData::Processor(r) => {
+            let mut held = words(&[r.cpu_5s, r.cpu_1m, r.cpu_5m]);
+            held.extend([Long(r.total_memory), Long(r.free_memory)]);
+            held
+        }
+        _ => return None,
+    })
+}
+
+fn generic_interface_fields(r: &GenericInterfaceCounters) -> Vec<Held<'_>> {
+    use Held::*;
+    let mut held = vec![Word(r.if_index), Word(r.if_type), Long(r.if_speed), Word(r.if_direction), Word(r.if_status)];
+    held.extend([Long(r.if_in_octets), Word(r.if_in_ucast_pkts), Word(r.if_in_multicast_pkts), Word(r.if_in_broadcast_pkts)]);
+    held.extend(words(&[r.if_in_discards, r.if_in_errors, r.if_in_unknown_protos]));
+    held.extend([Long(r.if_out_octets), Word(r.if_out_ucast_pkts), Word(r.if_out_multicast_pkts), Word(r.if_out_broadcast_pkts)]);
+    held.extend(words(&[r.if_out_discards, r.if_out_errors, r.if_promiscuous_mode]));
+    held
+}
+
+fn token_ring_fields(r: &TokenRingCounters) -> Vec<Held<'_>> {
+    words(&[
+        r.dot5_stats_line_errors,
+        r.dot5_stats_burst_errors,
+        r.dot5_stats_ac_errors,
+        r.dot5_stats_abort_trans_errors,
+        r.dot5_stats_internal_errors,
+        r.dot5_stats_lost_frame_errors,
+        r.dot5_stats_receive_congestions,
+        r.dot5_stats_frame_copied_errors,
+        r.dot5_stats_token_errors,
+        r.dot5_stats_soft_errors,
+        r.dot5_stats_hard_errors,
+        r.dot5_stats_signal_loss,
+        r.dot5_stats_transmit_beacons,
+        r.dot5_stats_recoverys,
+        r.dot5_stats_lobe_wires,
+        r.dot5_stats_removes,
+        r.dot5_stats_singles,
+        r.dot5_stats_freq_errors,
+    ])
+}
+
+fn vg100_interface_fields(r: &Vg100InterfaceCounters) -> Vec<Held<'_>> {
+    use Held::*;
+    let mut held = vec![Word(r.dot12_in_high_priority_frames), Long(r.dot12_in_high_priority_octets)];
+    held.extend([Word(r.dot12_in_norm_priority_frames), Long(r.dot12_in_norm_priority_octets)]);
+    held.extend(words(&[r.dot12_in_ipm_errors, r.dot12_in_oversize_frame_errors, r.dot12_in_data_errors]));
+    held.extend([Word(r.dot12_in_null_addressed_frames), Word(r.dot12_out_high_priority_frames)]);
+    held.extend([Long(r.dot12_out_high_priority_octets), Word(r.dot12_transition_into_trainings)]);
+    held.extend([Long(r.dot12_hc_in_high_priority_octets), Long(r.dot12_hc_in_norm_priority_octets)]);
+    held.push(Long(r.dot12_hc_out_high_priority_octets));
+    held
 }

@@ -85,13 +85,15 @@ fn long_inputs(length: usize) -> Vec<(&'static str, Vec<u8>)> {
     let sample = |fields: &[u32]| [&HEAD[..], fields].concat();
     let flow = |format: u32, fields: &[u32]| [&HEAD[..], &[1, BEHIND, 0, 0, 0, 0, 0, 0, 0, 1, format, BEHIND], fields].concat();
     let (raw, character) = (words(&[4097, 0]), "\u{10ffff}".as_bytes());
+    let vlan = words(&[5, 28, 1, 2, 3, 4, 5, 6, 7]);
     let two_datagrams = words(&[5, 0, 0, 1, 0, 0, 5, 0, 0, 1, 0, 0]);
     vec![
         ("an empty datagram, and zeros", filled(&[5, 0, 0, 1, 0, 0], &[0; 4], &[], length)),
         ("a raw sample", filled(&sample(&[4097, BEHIND]), b"\x01\x02\x03\x04", &[], length)),
         ("many raw samples", filled(&[5, 0, 0, 1, 0, UNITS], &raw, &[], length)),
         ("many raw records", filled(&sample(&[1, BEHIND, 0, 0, 0, 0, 0, 0, 0, UNITS]), &raw, &[], length)),
-        ("many counter records", filled(&sample(&[2, BEHIND, 0, 0, UNITS]), &raw, &[], length)),
+        ("many raw counter records", filled(&sample(&[2, BEHIND, 0, 0, UNITS]), &raw, &[], length)),
+        ("many counter records", filled(&sample(&[4, BEHIND, 0, 0, 0, UNITS]), &vlan, &[], length)),
         ("a sampled header", filled(&flow(1, &[1, 0, 0, BYTES]), b"\xff\xfe\x00\x01", &[], length)),
         ("a string of ASCII", filled(&flow(1008, &[BYTES]), b"abcd", &[7, 8], length)),
         ("a string of four-byte characters", filled(&flow(1005, &[1, 0, BYTES]), character, &[], length)),

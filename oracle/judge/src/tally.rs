@@ -11,9 +11,10 @@ pub enum Key {
     RunCode(u32),
     /// A field reading of a descriptor that was changed.
     FieldCode(u32),
-    /// Of accepted datagrams: an opened sample, an opened flow record, what is kept raw by kind, a record's depth.
+    /// Of accepted datagrams: an opened sample, an opened flow or counter record, what is kept raw by kind, a record's depth.
     Sample(u32),
     Flow(u32),
+    Counter(u32),
     Raw(u32),
     Depth(u32),
     Refusal(u32, Place),
@@ -158,6 +159,7 @@ fn named(key: Key) -> (String, String) {
         Key::FieldCode(code) => text("field reading of a changed descriptor, code", code),
         Key::Sample(format) => text("sample", format),
         Key::Flow(format) => text("flow record", format),
+        Key::Counter(format) => text("counter record", format),
         Key::Raw(kind) => ("kept raw".to_string(), KINDS[kind as usize].to_string()),
         Key::Depth(depth) => text("record at depth", depth),
         Key::Refusal(code, place) => (format!("refused with {code} in"), format!("{place:?}")),
@@ -173,7 +175,7 @@ fn named(key: Key) -> (String, String) {
     }
 }
 
-/// Every sample and flow format, code and class of refusal, and every record that only the crate opens.
+/// Every sample, flow and counter format, code and class of refusal, and every record that only the crate opens.
 fn required() -> Vec<Key> {
     let mut all = vec![Key::Raw(SAMPLE), Key::Raw(FLOW), Key::Raw(COUNTER), Key::Code(0), Key::RunCode(0), Key::Deep(0), Key::Deep(2)];
     all.extend(AGENTS.into_iter().chain([NOT_ASCII, RUBBISH, LEFT, BEHIND]).map(Key::Seen));
@@ -185,6 +187,7 @@ fn required() -> Vec<Key> {
         match layout.kind {
             SAMPLE => all.push(Key::Sample(layout.format)),
             FLOW => all.push(Key::Flow(layout.format)),
+            COUNTER => all.push(Key::Counter(layout.format)),
             _ => {}
         }
         all.extend(refusals(layout));
@@ -204,6 +207,7 @@ fn refusals(layout: &Layout) -> Vec<Key> {
     let place = match layout.kind {
         DATAGRAM => Place::Header,
         SAMPLE => Place::Sample(layout.format),
+        COUNTER => Place::Counter(layout.format),
         _ => Place::Flow(layout.format),
     };
     let mut codes = vec![2];
