@@ -27,6 +27,8 @@ def records():
     import shapes
     for form, data in shapes.KINDS.items():
         yield shapes.with_record(form, data)
+    for form, data in shapes.COUNTER_KINDS.items():
+        yield shapes.with_counter(form, data)
     yield shapes.EVERY_KIND
 
 

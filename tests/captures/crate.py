@@ -194,10 +194,18 @@ def add_sample(found, sample):
     flows = inside.parts.get("flow_records", [])
     found.append(opened(place, inside, num_records=len(counters) + len(flows)))
     for record in counters:
-        place = Place(3, number(record.counter_format), parent, 1)
-        found.append(Node(place, raw=raw_of(record.counter_data)))
+        add_counter(found, record, parent)
     for record in flows:
         add_flow(found, record, parent, 1)
+
+
+def add_counter(found, record, parent):
+    place, data = Place(3, number(record.counter_format), parent, 1), record.counter_data
+    if (3, place.format) not in BY_FORMAT:
+        found.append(Node(place, raw=raw_of(data)))
+        return
+    inside, = data.parts
+    found.append(opened(place, inside))
 
 
 def raw_of(data):

@@ -5,7 +5,8 @@ from collections import namedtuple
 from library import DESCRIPTOR_WORDS, MAX_DEPTH, NOBODY
 from long import LONG
 from shapes import (
-    CUT_KINDS, EVERY_KIND, IPV6, KINDS, P2, P3, P4, P6, P7, P9, P11, P12, P12_DEEPER, P13, counter_sample, frame, header, with_string, words)
+    COUNTER_KINDS, COUNTERS, CUT_KINDS, EVERY_KIND, IPV6, KINDS, P2, P3, P4, P6, P7, P9, P11, P12, P12_DEEPER, P13, counter_sample, frame, header,
+    with_counter, with_string, words)
 
 # as answers.c has them: what the store holds before a call, and how many words behind it are shown too
 FILL = 0xA5A5A5A5
@@ -28,6 +29,15 @@ def nested(count):
     return rows
 
 
+def of_counters():
+    """The descriptors of one counter sample with a record of each kind that is opened."""
+    rows, start = [], 52
+    for form, data in COUNTER_KINDS.items():
+        rows.append((3, form, start, len(data), 1, 1, start - 8))
+        start += len(data) + 8
+    return [(0, 0, 0, start - 8, NOBODY, 0, 0), (1, 2, 32, start - 40, 0, 0, 24), *rows]
+
+
 def of_h(samples):
     return (0, bytes(16), 0, 1, 0, samples)
 
@@ -40,8 +50,13 @@ WITH_ADDRESS = Session(words(5) + IPV6 + words(7, 8, 9, 0), (2, bytes(range(16))
 WITH_COUNTERS = Session(header(1) + counter_sample(2, 2 * frame(4097, b"\1")), of_h(1), 68, 15, [
     (0, 0, 0, 68, NOBODY, 0, 0), (1, 2, 32, 36, 0, 0, 24), (3, 4097, 52, 1, 1, 1, 44), (3, 4097, 64, 1, 1, 1, 56)])
 
+# eleven steps to the records, two for each of them, and their 19, 13, 18, 14, 6 and 5 items
+WITH_OPENED = Session(header(1) + COUNTERS, of_h(1), 440, 98, of_counters())
+
 # a malformed datagram, its code, position and steps
 MALFORMED = [(P3, 3, 0, 0), (P4, 4, 4, 1), (P6, 2, 28, 7), (P7, 5, 28, 7), (P12_DEEPER, 8, S12.at, S12.steps), (P13, 6, 72, 18)]
+# the octets of a VLAN, of which four bytes of eight are there
+MALFORMED += [(with_counter(5, words(1, 0)), 2, 56, 14)]
 # strings that are not UTF-8, and how many of their bytes are before the first ill-formed sequence
 ILL_FORMED = [
     (b"\xff", 0), (b"\xe2\x28\xa1", 0), (b"plain\xc3", 5), (b"\xf0\x9f\xa6\x80\xf0\x9f\xa6", 4), (80 * b"\xc3\xbc" + b"\xed\xa0\x80", 160),
@@ -70,7 +85,7 @@ def with_rooms(group, call, session, rooms):
 
 
 def edges(call):
-    for session in (S2, S9, S11, S12, WITH_ADDRESS, WITH_COUNTERS):
+    for session in (S2, S9, S11, S12, WITH_ADDRESS, WITH_COUNTERS, WITH_OPENED):
         edge = DESCRIPTOR_WORDS * len(session.rows)
         rooms = {*range(31), *range(max(0, edge - 8), edge + 9)}
         yield from with_rooms("stores of 0 to 30 words, and of 8 less to 8 more than what is needed", call, session, sorted(rooms))
@@ -98,8 +113,9 @@ def sum_of_run():
 
 
 def deep(call):
-    group = f"every kind of record at depth {MAX_DEPTH}, whole, and cut short before each of its words"
-    yield Case(group, call, EVERY_KIND, 600, Shown(0, len(EVERY_KIND), None, 2 + 2 * (MAX_DEPTH - 1) + len(KINDS) + 2, None, None))
+    group = f"every kind of record, flow records at depth {MAX_DEPTH}, whole, and cut short before each of its words"
+    needed = 2 + 2 * (MAX_DEPTH - 1) + len(KINDS) + 2 + 1 + len(COUNTER_KINDS)
+    yield Case(group, call, EVERY_KIND, 600, Shown(0, len(EVERY_KIND), None, needed, None, None))
     for data in CUT_KINDS:
         yield Case(group, call, data, 600, unwritten(2 if call == "decode" else 0, None, None, 0, 600))
 

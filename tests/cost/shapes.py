@@ -1,4 +1,4 @@
-"""Inputs: sessions of docs/RULES.md, every kind of flow record at the deepest depth, and long inputs of one shape."""
+"""Inputs: sessions of docs/RULES.md, every kind of record, flow records at the deepest depth, and long inputs of one shape."""
 import os
 import struct
 import sys
@@ -98,10 +98,26 @@ KINDS = {
 }
 
 
+# a payload of each kind of counter record that is opened: so many words, which are its items, or two of them one
+COUNTER_KINDS = {form: words(*range(size // 4)) for form, size in ((1, 88), (2, 52), (3, 72), (4, 80), (5, 28), (1001, 28))}
+
+
+def with_counter(form, data):
+    """A datagram with one counter sample of one record, whose payload begins at byte 52."""
+    return header(1) + counter_sample(1, frame(form, data))
+
+
 def deepest(records):
     return with_aggregations(MAX_DEPTH - 1, len(records), b"".join(records))
 
 
-EVERY_KIND = deepest([frame(form, data) for form, data in KINDS.items()])
+def together(*datagrams):
+    """The samples of datagrams with the same header, in one."""
+    return header(len(datagrams)) + b"".join(data[len(P2):] for data in datagrams)
+
+
+COUNTERS = counter_sample(len(COUNTER_KINDS), b"".join(frame(form, data) for form, data in COUNTER_KINDS.items()))
+EVERY_KIND = together(deepest([frame(form, data) for form, data in KINDS.items()]), header(1) + COUNTERS)
 # each opened kind, cut short before each of its words
 CUT_KINDS = [deepest([frame(form, data[:end])]) for form, data in KINDS.items() if form != RAW_KIND for end in range(0, len(data), 4)]
+CUT_KINDS += [with_counter(form, data[:end]) for form, data in COUNTER_KINDS.items() for end in range(0, len(data), 4)]

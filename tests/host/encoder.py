@@ -41,8 +41,31 @@ LAYOUTS = {
     "extended_80211_tx": (
         2, 1015, "ssid:string bssid:six_of_eight version transmissions packet_duration retrans_duration channel speed:long power"),
     "extended_80211_aggregation": (2, 1016, "pdu_count"),
+    "generic_interface_counters": (
+        3, 1, "if_index if_type if_speed:long if_direction if_status if_in_octets:long if_in_ucast_pkts if_in_multicast_pkts if_in_broadcast_pkts"
+        " if_in_discards if_in_errors if_in_unknown_protos if_out_octets:long if_out_ucast_pkts if_out_multicast_pkts if_out_broadcast_pkts"
+        " if_out_discards if_out_errors if_promiscuous_mode"),
+    "ethernet_interface_counters": (
+        3, 2, "dot3_stats_alignment_errors dot3_stats_fcs_errors dot3_stats_single_collision_frames dot3_stats_multiple_collision_frames"
+        " dot3_stats_sqe_test_errors dot3_stats_deferred_transmissions dot3_stats_late_collisions dot3_stats_excessive_collisions"
+        " dot3_stats_internal_mac_transmit_errors dot3_stats_carrier_sense_errors dot3_stats_frame_too_longs"
+        " dot3_stats_internal_mac_receive_errors dot3_stats_symbol_errors"),
+    "token_ring_counters": (
+        3, 3, "dot5_stats_line_errors dot5_stats_burst_errors dot5_stats_ac_errors dot5_stats_abort_trans_errors dot5_stats_internal_errors"
+        " dot5_stats_lost_frame_errors dot5_stats_receive_congestions dot5_stats_frame_copied_errors dot5_stats_token_errors"
+        " dot5_stats_soft_errors dot5_stats_hard_errors dot5_stats_signal_loss dot5_stats_transmit_beacons dot5_stats_recoverys"
+        " dot5_stats_lobe_wires dot5_stats_removes dot5_stats_singles dot5_stats_freq_errors"),
+    "vg100_interface_counters": (
+        3, 4, "dot12_in_high_priority_frames dot12_in_high_priority_octets:long dot12_in_norm_priority_frames dot12_in_norm_priority_octets:long"
+        " dot12_in_ipm_errors dot12_in_oversize_frame_errors dot12_in_data_errors dot12_in_null_addressed_frames"
+        " dot12_out_high_priority_frames dot12_out_high_priority_octets:long dot12_transition_into_trainings"
+        " dot12_hc_in_high_priority_octets:long dot12_hc_in_norm_priority_octets:long dot12_hc_out_high_priority_octets:long"),
+    "vlan_counters": (3, 5, "vlan_id octets:long ucast_pkts multicast_pkts broadcast_pkts discards"),
+    "processor_counters": (3, 1001, "cpu_5s cpu_1m cpu_5m total_memory:long free_memory:long"),
 }
 RECORDS = [name for name, row in LAYOUTS.items() if row[0] == 2 and row[1] != 1016]
+COUNTERS = [name for name, row in LAYOUTS.items() if row[0] == 3]
+COUNTER_SAMPLES = ["counters_sample", "counters_sample_expanded"]
 SAMPLES = [name for name, row in LAYOUTS.items() if row[0] == 1]
 WORDS_OF_NAMES = ["", "a", "eth0", "guest", "Café 3", "日本", "\x00\x1b[31m", "😀", "plume-latch-7"]
 
@@ -268,7 +291,7 @@ class Wire:
         def fill(row):
             self.body(row, body)
             return left_over
-        self.enclosed(2, body.format, parent, depth, fill)
+        self.enclosed(body.kind, body.format, parent, depth, fill)
 
     def aggregation(self, parent, depth, pdus):
         """Each PDU is a list of functions that put a record, given its parent and depth."""
@@ -338,16 +361,21 @@ def any_record(wire, rng, depth):
     return wire.put_record(Body(rng.choice(RECORDS), rng), rng.choice((0, 0, 1, 4)))
 
 
+def any_counter(wire, rng):
+    """A function that puts some counter record: of a known format, or raw."""
+    if rng.random() < 0.3:
+        form = rng.choice((0, 6, 11, 1000, 4095, 1 << 12 | 1, 1 << 12 | 1001, 1 << 31 | 5, rng.getrandbits(32) | 1 << 12))
+        return wire.put_raw(3, form, rng.randbytes(rng.randint(0, 9)))
+    return wire.put_record(Body(rng.choice(COUNTERS), rng), rng.choice((0, 0, 1, 4, 8)))
+
+
 def any_sample(wire, rng):
     if rng.random() < 0.15:
         form, data = rng.choice((4300 << 12 | 1002, 4300 << 12 | 1003, 6, 1 << 12 | 1)), rng.randbytes(rng.randint(0, 9))
         return lambda parent: wire.raw(1, form, parent, 0, data)
     name = rng.choice(SAMPLES)
     count = rng.randint(0, 4)
-    if "counters" in name:
-        puts = [wire.put_raw(3, rng.getrandbits(32), rng.randbytes(rng.randint(0, 9))) for _ in range(count)]
-    else:
-        puts = [any_record(wire, rng, 1) for _ in range(count)]
+    puts = [any_counter(wire, rng) if name in COUNTER_SAMPLES else any_record(wire, rng, 1) for _ in range(count)]
     return wire.put_sample(name, puts, rng.choice((0, 0, 0, 3)))
 
 

@@ -47,7 +47,7 @@ def wire_around(rng, body):
     put, depth = wire.put_record(body), rng.choice((1, 1, 2, 3, encoder.MAX_DEPTH))
     for below in range(depth, 1, -1):
         put = wire.put_aggregation([*[some(below) for _ in range(rng.randint(0, 2))], [*some(below), put, *some(below)]])
-    other = wire.put_sample("counters_sample", [wire.put_raw(3, 1, b"abcde")])
+    other = wire.put_sample("counters_sample", [wire.put_raw(3, 6, b"abcde"), wire.put_record(Body("vlan_counters", rng))])
     wire.datagram([*[other] * rng.randint(0, 2), wire.put_sample("flow_sample", [*some(1), put]), other])
     return wire
 

@@ -6,7 +6,7 @@ import subprocess
 import building
 import encoder
 import library
-from encoder import Body, DESCRIPTOR_WORDS, LAYOUTS, MAX_DEPTH, MAX_INPUT, NOBODY, RECORDS, SAMPLES, Wire, pads
+from encoder import Body, COUNTERS, COUNTER_SAMPLES, DESCRIPTOR_WORDS, LAYOUTS, MAX_DEPTH, MAX_INPUT, NOBODY, RECORDS, SAMPLES, Wire, pads
 
 NO_ADDRESS = "0/" + "00" * 16
 NO_HEADER = f" agent_address={NO_ADDRESS} sub_agent_id=0 sequence_number=0 uptime=0 num_samples=0"
@@ -138,6 +138,8 @@ def wire_of(rng, name, depth):
     body = Body(name, rng)
     if name in RECORDS:
         wire = encoder.of_one_record(rng, body, rng.choice(("flow_sample", "flow_sample_expanded", "discarded_packet")), depth)
+    elif name in COUNTERS:
+        wire = encoder.of_one_record(rng, body, rng.choice(COUNTER_SAMPLES))
     else:
         wire = Wire(rng)
         wire.datagram([] if name == "header" else [wire.put_sample(name, [])])
@@ -172,15 +174,15 @@ def cut_layouts(s, rng):
             for length in range(len(body.data)):
                 item, offset = body.cut_at(length)
                 s.read_refused(body, (kind, form, start, length, *rest[1:]), 2, base + offset, item)
-        if name in RECORDS:
-            cut_records(s, rng, Body(name, rng))
+        for sample in ["flow_sample"] if name in RECORDS else COUNTER_SAMPLES if name in COUNTERS else []:
+            cut_records(s, rng, Body(name, rng), sample)
 
 
-def cut_records(s, rng, body):
+def cut_records(s, rng, body, sample):
     for length in range(len(body.data)):
         wire = Wire(rng)
         whole = body.data
-        wire.datagram([wire.put_sample("flow_sample", [wire.put_raw(2, body.format, whole[:length])])])
+        wire.datagram([wire.put_sample(sample, [wire.put_raw(body.kind, body.format, whole[:length])])])
         item, offset = body.cut_at(length)
         s.data(wire.data)
         s.refused(6000, 2, wire.rows[2][2] + offset, wire.steps + item)
@@ -266,7 +268,8 @@ def ranges_and_kinds(s, rng):
         for other, (other_kind, other_form, _) in LAYOUTS.items():
             if other != name:
                 s.read_refused(body, (other_kind, other_form, 0, size), 11)
-        for wrong in ((kind, form + (1 << 12)), (kind, form | half), (kind + 1, form), (4, 0), (3, form), (kind + 256, form), (NOBODY, form)):
+        others = [(other, form) for other in range(5) if other != kind]
+        for wrong in (*others, (kind, form + (1 << 12)), (kind, form | half), (4, 0), (kind + 256, form), (NOBODY, form)):
             s.read_refused(body, (*wrong, 0, size), 11)
         s.read_whole(body, (kind, form, 0, size, *(rng.getrandbits(32) for _ in range(DESCRIPTOR_WORDS - 4))), 0)
 

@@ -206,12 +206,15 @@ def cuts(tool, rng):
 
 def cuts_read_back(tool, rng):
     """A record that was cut out, as the one record of a sample that is made here, shows the same fields."""
-    for name in encoder.RECORDS:
+    for name in encoder.RECORDS + encoder.COUNTERS:
         body = encoder.Body(name, rng)
-        wire = encoder.of_one_record(rng, body, depth=rng.randint(1, encoder.MAX_DEPTH))
+        if name in encoder.COUNTERS:
+            wire, form, before = encoder.of_one_record(rng, body, rng.choice(encoder.COUNTER_SAMPLES)), 2, (0, 0, 1)
+        else:
+            wire, form, before = encoder.of_one_record(rng, body, depth=rng.randint(1, encoder.MAX_DEPTH)), 1, (0, 0, 0, 0, 0, 0, 0, 1)
         status, cut, said = tool.run("cut", tool.file("one", wire.data), str(len(wire.rows) - 1), raw=True)
         tool.checks.same(f"cut {name}: status", (0, ""), (status, said))
-        sample = b"".join(map(encoder.word, (1, 32 + len(cut), 0, 0, 0, 0, 0, 0, 0, 1))) + cut
+        sample = b"".join(map(encoder.word, (form, 4 * len(before) + len(cut), *before))) + cut
         status, out, said = tool.run("show", "--full", tool.file("made", SHORT[:20] + encoder.word(1) + sample))
         shapes = (field.partition(":") for field in encoder.LAYOUTS[name][2].split())
         expected = [(field, trees.spoken(body, field, shape, body.fields[field])) for field, _, shape in shapes]

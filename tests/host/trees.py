@@ -3,7 +3,7 @@ import ipaddress
 import re
 
 import library_checks
-from encoder import Body, LAYOUTS, MAX_DEPTH, MAX_OPAQUE, RECORDS, Span, Wire, of_one_record
+from encoder import Body, COUNTERS, LAYOUTS, MAX_DEPTH, MAX_OPAQUE, RECORDS, Span, Wire, of_one_record
 
 # the words of docs/RULES.md, 5
 CODES = {
@@ -52,8 +52,8 @@ def wire_of(rng, name):
 
 def wire_with(rng, name, given):
     """A datagram with this layout and these values in it."""
-    if name in RECORDS:
-        return of_one_record(rng, Body(name, rng, **given))
+    if name in RECORDS + COUNTERS:
+        return of_one_record(rng, Body(name, rng, **given), "counters_sample" if name in COUNTERS else "flow_sample")
     wire = Wire(rng)
     if name == "header":
         wire.datagram([], **given)
