@@ -55,6 +55,10 @@ def flow_bodies():
     return [Body(name, '64' if row[1] in (1003, 1010) else '46') for name, row in MEMO.items() if row[0] == 2]
 
 
+def counter_bodies():
+    return [Body(name) for name, row in MEMO.items() if row[0] == 3]
+
+
 def sample_bodies():
     return [Body(name) for name, row in MEMO.items() if row[0] == 1]
 
@@ -65,6 +69,10 @@ def header_bodies():
 
 def flow_records():
     return [accepted(body) for body in flow_bodies()]
+
+
+def counter_records():
+    return [accepted(body) for body in counter_bodies()]
 
 
 def samples():
@@ -104,6 +112,9 @@ def refusals():
     yield cut(body('extended_gateway'), 'dst_as_path[0].path', 3, "a segment's count is cut")
     yield cut(body('extended_gateway'), 'dst_as_path[0].path[1]', 3, 'an AS number of a segment is cut')
     yield cut(body('extended_80211_aggregation'), 'pdu_count', 3, 'the count of PDUs is cut')
+    yield cut(body('vlan_counters'), 'multicast_pkts', 3, 'a word of a counter record is cut')
+    yield cut(body('generic_interface_counters'), 'if_out_octets', 4, 'a u64 of a counter record is cut, behind its first word')
+    yield cut(body('processor_counters'), 'cpu_5s', 0, 'a counter record is empty')
     yield spoiled(body('header', '4'), 'version', word(4), 0, 3, 'version 4')
     yield spoiled(body('header', '4'), 'agent_address', word(3), 0, 4, 'an address of type 3')
     yield spoiled(body('extended_nat'), 'dst_address', word(3), 0, 4, 'an address of type 3')
@@ -114,6 +125,8 @@ def refusals():
     yield spoiled(body('sampled_header'), 'protocol', word(18), 0, 6, 'protocol 18')
     yield spoiled(body('extended_user'), 'dst_user', b'\xe9', 4 + 2, 7, 'the third byte of a string begins no character')
     yield spoiled(body('extended_80211_rx'), 'ssid', b'\xe2\x82', 4 + 3, 7, "a string's last character is cut")
+    one = body('vlan_counters')
+    yield refused(one, 'asked for, and of the same format of another enterprise', 11, 0, 0, asked=(3, 0x1005))
     one = body('extended_switch')
     yield refused(one, 'the range passes the input', 10, 0, 0, extent=len(one.data) + 5)
     yield refused(one, 'asked for, and of the kind of a sample', 11, 0, 0, asked=(1, 1001))
@@ -161,7 +174,7 @@ def head_of(body):
 
 def agent_bytes(agent):
     rest = 16 - len(agent)
-    return '%s%s' % ('w %s' % words_of(agent) if agent else '', ' ++ replicate %d 0' % rest if rest else '')
+    return ' ++ '.join(['w %s' % words_of(agent)] * bool(agent) + ['replicate %d 0' % rest] * bool(rest))
 
 
 def raw_samples(n):
@@ -184,8 +197,23 @@ class Datagram:
         return antt_list([' '.join(['desc', *map(str, row)]) for row in self.store])
 
 
+class Counters(Datagram):
+    """A header and a counter sample: a record that is opened, and one of the same format of another enterprise, which stays raw."""
+
+    def __init__(self):
+        self.head, sample, record = Body('header', '0', num_samples=1), Body('counters_sample', num_records=2), Body('vlan_counters')
+        start, size = len(self.head.data), len(record.data)
+        inside = bytes(sample.data) + word(5) + word(size) + bytes(record.data) + word(0x1005) + word(4) + word(0x71727374)
+        self.data = bytes(self.head.data) + word(2) + word(len(inside)) + inside
+        self.at, self.steps, self.needed = len(self.data), sum(len(b.items) for b in (self.head, sample, record)) + 6, 4
+        first = start + 8 + len(sample.data)
+        second = first + 8 + size
+        self.store = [(0, 0, 0, len(self.data), NOBODY, 0, 0), (1, 2, start + 8, len(inside), 0, 0, start),
+                      (3, 5, first + 8, size, 1, 1, first), (3, 0x1005, second + 8, 4, 1, 1, second)]
+
+
 def whole_datagrams():
-    return [Datagram('4', 2), Datagram('6', 3)]
+    return [Datagram('4', 2), Datagram('6', 3), Counters()]
 
 
 def ended_run():
@@ -210,6 +238,11 @@ def undecoded():
     d = Datagram('4', 1)
     yield Example('no room: the store has a word less than two descriptors take', 'stops %s\n%d 9 0 %d 2' % (words_of(d.data), 2 * DESCRIPTOR_WORDS - 1, d.steps),
                   [d.data.hex(' ', -4), 'code 9, at 0, steps %d, descriptors 2' % d.steps])
+    sample = bytes(Body('counters_sample', num_records=1).data) + word(5) + word(8) + word(1) + word(0)
+    data = bytes(d.head.data) + word(2) + word(len(sample)) + sample
+    at, steps = len(data) - 4, len(d.head.items) + 2 + 3 + 2 + 1
+    yield Example('a counter record is cut, behind the first word of its u64', 'stops %s\n200 2 %d %d 0' % (words_of(data), at, steps),
+                  [data.hex(' ', -4), 'code 2, at %d, steps %d' % (at, steps)])
     inner = b''
     for _ in range(MAX_DEPTH):
         inner = word(1016) + word(8 + len(inner)) + word(1) + word(1) + inner

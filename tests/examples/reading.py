@@ -14,7 +14,7 @@ use Rattle.reading.specs.Utf8.{among, utf8, longest-to}
 use Rattle.reading.specs.Numbers.{known, header-protocols}
 use Rattle.reading.specs.Script.{Span, Value, number, octets, address, part}
 use Rattle.reading.specs.Cursor.{read-item, follow}
-use Rattle.reading.specs.Layout.{address-of, run-of, field, fields, last-number, opened, flows, flow, samples, datagram-to}
+use Rattle.reading.specs.Layout.{address-of, run-of, field, fields, last-number, opened, flows, flow, counters, samples, datagram-to}
 use Rattle.reading.specs.Values.{valued, reading}
 use Rattle.reading.specs.Answer.{size, rows, Header, header-of, no-header, Answer, stored, one, tried, datagrams, run, layout-of, Fields, answered, read, Listed, list-word, segment-at, payload-span, whole-span}
 
@@ -165,6 +165,7 @@ stops ws m c a n k = record {
 HELPERS = 'w nowhere v4 v6 lies desc accepts refuses mistakes segment pays stands lists decodes runs stops'.split()
 TABLES = (
     ('flow-records', 'the flow records', cases.flow_records),
+    ('counter-records', 'the counter records', cases.counter_records),
     ('sample-fields', 'the fields of a sample before its records', cases.samples),
     ('headers', 'the header of a datagram, by field reading', cases.headers),
     ('segments', 'a segment of an AS path', cases.segments),
@@ -198,6 +199,6 @@ unfolding %s
 examples = %s
 
 pub the-examples-hold : map (λ (e : Example). e .call (e .input)) examples ≡ map (λ (e : Example). e .result) examples
-unfolding examples be4 be8 among utf8 longest-to known header-protocols follow read-item address-of run-of field fields last-number opened flows flow samples datagram-to size rows header-of no-header valued reading layout-of answered read segment-at stored one tried datagrams run list-word payload-span whole-span
+unfolding examples be4 be8 among utf8 longest-to known header-protocols follow read-item address-of run-of field fields last-number opened flows flow counters samples datagram-to size rows header-of no-header valued reading layout-of answered read segment-at stored one tried datagrams run list-word payload-span whole-span
 the-examples-hold = refl
 ''' % (names, ' ++ '.join(name for name, _, _ in TABLES))

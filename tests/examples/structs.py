@@ -1,5 +1,5 @@
 """The files of the crates that have structs: each record by the names of its fields, and that it shows what `reading` has."""
-from cases import LISTED, ended_run, flow_bodies, header_bodies, named, sample_bodies, whole_datagrams
+from cases import LISTED, counter_bodies, ended_run, flow_bodies, header_bodies, named, sample_bodies, whole_datagrams
 from structures import START, Part, antt_list, number
 
 
@@ -119,6 +119,12 @@ def flow_layouts_text():
     bodies = flow_bodies()
     return crate_text('flow_layouts', 'the flow records', [of_body('flow', b) for b in bodies], ['flow-records'],
                       shown_uses('flow_layouts', [dashed(b.name) for b in bodies]))
+
+
+def counters_text():
+    bodies = counter_bodies()
+    return crate_text('counters', 'the counter records', [of_body('counter', b) for b in bodies], ['counter-records'],
+                      shown_uses('counters', [dashed(b.name) for b in bodies]))
 
 
 def samples_text():

@@ -6,7 +6,7 @@ import os
 
 HERE = os.path.dirname(os.path.abspath(__file__))
 START = 4  # where a range begins: one word stands before it
-WORDS = 'unsigned_int data_source interface drop_reason ip_v4 charset url_direction cipher_suite ieee80211_version duration_us'.split()
+WORDS = 'unsigned_int data_source interface drop_reason ip_v4 charset url_direction cipher_suite ieee80211_version duration_us percentage'.split()
 
 
 def structures():

@@ -10,7 +10,7 @@ use Rattle.reading.specs.Utf8.{among, utf8, longest-to}
 use Rattle.reading.specs.Numbers.{known, header-protocols}
 use Rattle.reading.specs.Script.{Span, Value, number, octets, address, part}
 use Rattle.reading.specs.Cursor.{read-item, follow}
-use Rattle.reading.specs.Layout.{address-of, run-of, field, fields, last-number, opened, flows, flow, samples, datagram-to}
+use Rattle.reading.specs.Layout.{address-of, run-of, field, fields, last-number, opened, flows, flow, counters, samples, datagram-to}
 use Rattle.reading.specs.Values.{valued, reading}
 use Rattle.reading.specs.Answer.{size, rows, Header, header-of, no-header, Answer, stored, one, tried, datagrams, run, layout-of, Fields, answered, read, Listed, list-word, segment-at, payload-span, whole-span}
 
@@ -222,6 +222,30 @@ flow-records =
     8 1 (number 0x11121314 ∷ [])
     ∷ []
 
+-- the counter records
+unfoldable pub counter-records : List Example
+unfolding accepts
+counter-records =
+    -- generic_interface_counters, format 1: if_index, if_type, if_speed, if_direction, if_status, if_in_octets, if_in_ucast_pkts, if_in_multicast_pkts, if_in_broadcast_pkts, if_in_discards, if_in_errors, if_in_unknown_protos, if_out_octets, if_out_ucast_pkts, if_out_multicast_pkts, if_out_broadcast_pkts, if_out_discards, if_out_errors, if_promiscuous_mode
+    accepts 3 1 (0x11121314 ∷ 0x15161718 ∷ 0x191a1b1c ∷ 0x1d1e1f20 ∷ 0x21222324 ∷ 0x25262728 ∷ 0x292a2b2c ∷ 0x2d2e2f30 ∷ 0x31323334 ∷ 0x35363738 ∷ 0x393a3b3c ∷ 0x3d3e3f40 ∷ 0x41424344 ∷ 0x45464748 ∷ 0x494a4b4c ∷ 0x4d4e4f50 ∷ 0x51525354 ∷ 0x55565758 ∷ 0x595a5b5c ∷ 0x5d5e5f60 ∷ 0x61626364 ∷ 0x65666768 ∷ [])
+    92 19 (number 0x11121314 ∷ number 0x15161718 ∷ number 0x191a1b1c1d1e1f20 ∷ number 0x21222324 ∷ number 0x25262728 ∷ number 0x292a2b2c2d2e2f30 ∷ number 0x31323334 ∷ number 0x35363738 ∷ number 0x393a3b3c ∷ number 0x3d3e3f40 ∷ number 0x41424344 ∷ number 0x45464748 ∷ number 0x494a4b4c4d4e4f50 ∷ number 0x51525354 ∷ number 0x55565758 ∷ number 0x595a5b5c ∷ number 0x5d5e5f60 ∷ number 0x61626364 ∷ number 0x65666768 ∷ [])
+    -- ethernet_interface_counters, format 2: dot3_stats_alignment_errors, dot3_stats_fcs_errors, dot3_stats_single_collision_frames, dot3_stats_multiple_collision_frames, dot3_stats_sqe_test_errors, dot3_stats_deferred_transmissions, dot3_stats_late_collisions, dot3_stats_excessive_collisions, dot3_stats_internal_mac_transmit_errors, dot3_stats_carrier_sense_errors, dot3_stats_frame_too_longs, dot3_stats_internal_mac_receive_errors, dot3_stats_symbol_errors
+    ∷ accepts 3 2 (0x11121314 ∷ 0x15161718 ∷ 0x191a1b1c ∷ 0x1d1e1f20 ∷ 0x21222324 ∷ 0x25262728 ∷ 0x292a2b2c ∷ 0x2d2e2f30 ∷ 0x31323334 ∷ 0x35363738 ∷ 0x393a3b3c ∷ 0x3d3e3f40 ∷ 0x41424344 ∷ [])
+    56 13 (number 0x11121314 ∷ number 0x15161718 ∷ number 0x191a1b1c ∷ number 0x1d1e1f20 ∷ number 0x21222324 ∷ number 0x25262728 ∷ number 0x292a2b2c ∷ number 0x2d2e2f30 ∷ number 0x31323334 ∷ number 0x35363738 ∷ number 0x393a3b3c ∷ number 0x3d3e3f40 ∷ number 0x41424344 ∷ [])
+    -- token_ring_counters, format 3: dot5_stats_line_errors, dot5_stats_burst_errors, dot5_stats_ac_errors, dot5_stats_abort_trans_errors, dot5_stats_internal_errors, dot5_stats_lost_frame_errors, dot5_stats_receive_congestions, dot5_stats_frame_copied_errors, dot5_stats_token_errors, dot5_stats_soft_errors, dot5_stats_hard_errors, dot5_stats_signal_loss, dot5_stats_transmit_beacons, dot5_stats_recoverys, dot5_stats_lobe_wires, dot5_stats_removes, dot5_stats_singles, dot5_stats_freq_errors
+    ∷ accepts 3 3 (0x11121314 ∷ 0x15161718 ∷ 0x191a1b1c ∷ 0x1d1e1f20 ∷ 0x21222324 ∷ 0x25262728 ∷ 0x292a2b2c ∷ 0x2d2e2f30 ∷ 0x31323334 ∷ 0x35363738 ∷ 0x393a3b3c ∷ 0x3d3e3f40 ∷ 0x41424344 ∷ 0x45464748 ∷ 0x494a4b4c ∷ 0x4d4e4f50 ∷ 0x51525354 ∷ 0x55565758 ∷ [])
+    76 18 (number 0x11121314 ∷ number 0x15161718 ∷ number 0x191a1b1c ∷ number 0x1d1e1f20 ∷ number 0x21222324 ∷ number 0x25262728 ∷ number 0x292a2b2c ∷ number 0x2d2e2f30 ∷ number 0x31323334 ∷ number 0x35363738 ∷ number 0x393a3b3c ∷ number 0x3d3e3f40 ∷ number 0x41424344 ∷ number 0x45464748 ∷ number 0x494a4b4c ∷ number 0x4d4e4f50 ∷ number 0x51525354 ∷ number 0x55565758 ∷ [])
+    -- vg100_interface_counters, format 4: dot12_in_high_priority_frames, dot12_in_high_priority_octets, dot12_in_norm_priority_frames, dot12_in_norm_priority_octets, dot12_in_ipm_errors, dot12_in_oversize_frame_errors, dot12_in_data_errors, dot12_in_null_addressed_frames, dot12_out_high_priority_frames, dot12_out_high_priority_octets, dot12_transition_into_trainings, dot12_hc_in_high_priority_octets, dot12_hc_in_norm_priority_octets, dot12_hc_out_high_priority_octets
+    ∷ accepts 3 4 (0x11121314 ∷ 0x15161718 ∷ 0x191a1b1c ∷ 0x1d1e1f20 ∷ 0x21222324 ∷ 0x25262728 ∷ 0x292a2b2c ∷ 0x2d2e2f30 ∷ 0x31323334 ∷ 0x35363738 ∷ 0x393a3b3c ∷ 0x3d3e3f40 ∷ 0x41424344 ∷ 0x45464748 ∷ 0x494a4b4c ∷ 0x4d4e4f50 ∷ 0x51525354 ∷ 0x55565758 ∷ 0x595a5b5c ∷ 0x5d5e5f60 ∷ [])
+    84 14 (number 0x11121314 ∷ number 0x15161718191a1b1c ∷ number 0x1d1e1f20 ∷ number 0x2122232425262728 ∷ number 0x292a2b2c ∷ number 0x2d2e2f30 ∷ number 0x31323334 ∷ number 0x35363738 ∷ number 0x393a3b3c ∷ number 0x3d3e3f4041424344 ∷ number 0x45464748 ∷ number 0x494a4b4c4d4e4f50 ∷ number 0x5152535455565758 ∷ number 0x595a5b5c5d5e5f60 ∷ [])
+    -- vlan_counters, format 5: vlan_id, octets, ucast_pkts, multicast_pkts, broadcast_pkts, discards
+    ∷ accepts 3 5 (0x11121314 ∷ 0x15161718 ∷ 0x191a1b1c ∷ 0x1d1e1f20 ∷ 0x21222324 ∷ 0x25262728 ∷ 0x292a2b2c ∷ [])
+    32 6 (number 0x11121314 ∷ number 0x15161718191a1b1c ∷ number 0x1d1e1f20 ∷ number 0x21222324 ∷ number 0x25262728 ∷ number 0x292a2b2c ∷ [])
+    -- processor_counters, format 1001: cpu_5s, cpu_1m, cpu_5m, total_memory, free_memory
+    ∷ accepts 3 1001 (0x11121314 ∷ 0x15161718 ∷ 0x191a1b1c ∷ 0x1d1e1f20 ∷ 0x21222324 ∷ 0x25262728 ∷ 0x292a2b2c ∷ [])
+    32 5 (number 0x11121314 ∷ number 0x15161718 ∷ number 0x191a1b1c ∷ number 0x1d1e1f2021222324 ∷ number 0x25262728292a2b2c ∷ [])
+    ∷ []
+
 -- the fields of a sample before its records
 unfoldable pub sample-fields : List Example
 unfolding accepts
@@ -376,6 +400,15 @@ refusals =
     -- extended_80211_aggregation, format 1016: the count of PDUs is cut
     ∷ refuses 2 1016 (0x11121314 ∷ []) 3
     2 4 0 (number 0 ∷ [])
+    -- vlan_counters, format 5: a word of a counter record is cut
+    ∷ refuses 3 5 (0x11121314 ∷ 0x15161718 ∷ 0x191a1b1c ∷ 0x1d1e1f20 ∷ 0x21222324 ∷ 0x25262728 ∷ 0x292a2b2c ∷ []) 19
+    2 20 3 (number 0 ∷ number 0 ∷ number 0 ∷ number 0 ∷ number 0 ∷ number 0 ∷ [])
+    -- generic_interface_counters, format 1: a u64 of a counter record is cut, behind its first word
+    ∷ refuses 3 1 (0x11121314 ∷ 0x15161718 ∷ 0x191a1b1c ∷ 0x1d1e1f20 ∷ 0x21222324 ∷ 0x25262728 ∷ 0x292a2b2c ∷ 0x2d2e2f30 ∷ 0x31323334 ∷ 0x35363738 ∷ 0x393a3b3c ∷ 0x3d3e3f40 ∷ 0x41424344 ∷ 0x45464748 ∷ 0x494a4b4c ∷ 0x4d4e4f50 ∷ 0x51525354 ∷ 0x55565758 ∷ 0x595a5b5c ∷ 0x5d5e5f60 ∷ 0x61626364 ∷ 0x65666768 ∷ []) 60
+    2 60 12 (number 0 ∷ number 0 ∷ number 0 ∷ number 0 ∷ number 0 ∷ number 0 ∷ number 0 ∷ number 0 ∷ number 0 ∷ number 0 ∷ number 0 ∷ number 0 ∷ number 0 ∷ number 0 ∷ number 0 ∷ number 0 ∷ number 0 ∷ number 0 ∷ number 0 ∷ [])
+    -- processor_counters, format 1001: a counter record is empty
+    ∷ refuses 3 1001 (0x11121314 ∷ 0x15161718 ∷ 0x191a1b1c ∷ 0x1d1e1f20 ∷ 0x21222324 ∷ 0x25262728 ∷ 0x292a2b2c ∷ []) 0
+    2 4 0 (number 0 ∷ number 0 ∷ number 0 ∷ number 0 ∷ number 0 ∷ [])
     -- header: version 4
     ∷ refuses 0 0 (0x00000004 ∷ 0x00000001 ∷ 0x11121314 ∷ 0x15161718 ∷ 0x191a1b1c ∷ 0x1d1e1f20 ∷ 0x21222324 ∷ []) 28
     3 4 0 (number 0 ∷ nowhere ∷ number 0 ∷ number 0 ∷ number 0 ∷ number 0 ∷ [])
@@ -406,6 +439,9 @@ refusals =
     -- extended_80211_rx, format 1014: a string's last character is cut
     ∷ refuses 2 1014 (0x00000005 ∷ 0x616263e2 ∷ 0x82f1f2f3 ∷ 0x11121314 ∷ 0x15161718 ∷ 0x191a1b1c ∷ 0x1d1e1f20 ∷ 0x21222324 ∷ 0x25262728 ∷ 0x292a2b2c ∷ 0x2d2e2f30 ∷ 0x31323334 ∷ []) 48
     7 11 0 (lies 0 0 ∷ octets (replicate 6 0) ∷ number 0 ∷ number 0 ∷ number 0 ∷ number 0 ∷ number 0 ∷ number 0 ∷ [])
+    -- vlan_counters, format 5: asked for, and of the same format of another enterprise
+    ∷ mistakes 3 5 3 4101 (0x11121314 ∷ 0x15161718 ∷ 0x191a1b1c ∷ 0x1d1e1f20 ∷ 0x21222324 ∷ 0x25262728 ∷ 0x292a2b2c ∷ []) 28
+    11 0 0 (number 0 ∷ number 0 ∷ number 0 ∷ number 0 ∷ number 0 ∷ number 0 ∷ [])
     -- extended_switch, format 1001: the range passes the input
     ∷ refuses 2 1001 (0x11121314 ∷ 0x15161718 ∷ 0x191a1b1c ∷ 0x1d1e1f20 ∷ []) 21
     10 0 0 (number 0 ∷ number 0 ∷ number 0 ∷ number 0 ∷ [])
@@ -432,6 +468,10 @@ inputs =
     ∷ decodes (0x00000005 ∷ 0x00000002 ∷ 0x11121314 ∷ 0x15161718 ∷ 0x191a1b1c ∷ 0x1d1e1f20 ∷ 0x21222324 ∷ 0x25262728 ∷ 0x292a2b2c ∷ 0x00000003 ∷ 0x00001001 ∷ 0x00000001 ∷ 0x71f1f2f3 ∷ 0x00001002 ∷ 0x00000001 ∷ 0x72f1f2f3 ∷ 0x00001003 ∷ 0x00000001 ∷ 0x73f1f2f3 ∷ [])
     76 13 4 (record { address-type = 2; address = w (0x11121314 ∷ 0x15161718 ∷ 0x191a1b1c ∷ 0x1d1e1f20 ∷ []); sub-agent = 0x21222324; sequence = 0x25262728; uptime = 0x292a2b2c; sample-count = 3 })
     (desc 0 0 0 76 4294967295 0 0 ∷ desc 1 4097 48 1 0 0 40 ∷ desc 1 4098 60 1 0 0 52 ∷ desc 1 4099 72 1 0 0 64 ∷ [])
+    -- a datagram whose agent has an address of type 0: sub-agent, sequence, uptime, sample count
+    ∷ decodes (0x00000005 ∷ 0x00000000 ∷ 0x11121314 ∷ 0x15161718 ∷ 0x191a1b1c ∷ 0x00000001 ∷ 0x00000002 ∷ 0x0000003c ∷ 0x11121314 ∷ 0x15161718 ∷ 0x00000002 ∷ 0x00000005 ∷ 0x0000001c ∷ 0x11121314 ∷ 0x15161718 ∷ 0x191a1b1c ∷ 0x1d1e1f20 ∷ 0x21222324 ∷ 0x25262728 ∷ 0x292a2b2c ∷ 0x00001005 ∷ 0x00000004 ∷ 0x71727374 ∷ [])
+    92 21 4 (record { address-type = 0; address = replicate 16 0; sub-agent = 0x11121314; sequence = 0x15161718; uptime = 0x191a1b1c; sample-count = 1 })
+    (desc 0 0 0 92 4294967295 0 0 ∷ desc 1 2 32 60 0 0 24 ∷ desc 3 5 52 28 1 1 44 ∷ desc 3 4101 88 4 1 1 80 ∷ [])
     -- the first of these as a run
     ∷ runs (0x00000005 ∷ 0x00000001 ∷ 0x11121314 ∷ 0x15161718 ∷ 0x191a1b1c ∷ 0x1d1e1f20 ∷ 0x00000002 ∷ 0x00001001 ∷ 0x00000001 ∷ 0x71f1f2f3 ∷ 0x00001002 ∷ 0x00000001 ∷ 0x72f1f2f3 ∷ [])
     52 11 3 (desc 0 0 0 52 4294967295 0 0 ∷ desc 1 4097 36 1 0 0 28 ∷ desc 1 4098 48 1 0 0 40 ∷ [])
@@ -447,15 +487,18 @@ undecoded =
     -- no room: the store has a word less than two descriptors take
     stops (0x00000005 ∷ 0x00000001 ∷ 0x11121314 ∷ 0x15161718 ∷ 0x191a1b1c ∷ 0x1d1e1f20 ∷ 0x00000001 ∷ 0x00001001 ∷ 0x00000001 ∷ 0x71f1f2f3 ∷ [])
     13 9 0 9 2
+    -- a counter record is cut, behind the first word of its u64
+    ∷ stops (0x00000005 ∷ 0x00000001 ∷ 0x11121314 ∷ 0x15161718 ∷ 0x191a1b1c ∷ 0x1d1e1f20 ∷ 0x00000001 ∷ 0x00000002 ∷ 0x0000001c ∷ 0x11121314 ∷ 0x15161718 ∷ 0x00000001 ∷ 0x00000005 ∷ 0x00000008 ∷ 0x00000001 ∷ 0x00000000 ∷ [])
+    200 2 60 15 0
     -- a record would begin at depth 9: eight aggregations, each in the other's PDU
     ∷ stops (0x00000005 ∷ 0x00000001 ∷ 0x11121314 ∷ 0x15161718 ∷ 0x191a1b1c ∷ 0x1d1e1f20 ∷ 0x00000001 ∷ 0x00000001 ∷ 0x000000a0 ∷ 0x11121314 ∷ 0x15161718 ∷ 0x191a1b1c ∷ 0x1d1e1f20 ∷ 0x21222324 ∷ 0x25262728 ∷ 0x292a2b2c ∷ 0x00000001 ∷ 0x000003f8 ∷ 0x00000078 ∷ 0x00000001 ∷ 0x00000001 ∷ 0x000003f8 ∷ 0x00000068 ∷ 0x00000001 ∷ 0x00000001 ∷ 0x000003f8 ∷ 0x00000058 ∷ 0x00000001 ∷ 0x00000001 ∷ 0x000003f8 ∷ 0x00000048 ∷ 0x00000001 ∷ 0x00000001 ∷ 0x000003f8 ∷ 0x00000038 ∷ 0x00000001 ∷ 0x00000001 ∷ 0x000003f8 ∷ 0x00000028 ∷ 0x00000001 ∷ 0x00000001 ∷ 0x000003f8 ∷ 0x00000018 ∷ 0x00000001 ∷ 0x00000001 ∷ 0x000003f8 ∷ 0x00000008 ∷ 0x00000001 ∷ 0x00000001 ∷ [])
     200 8 196 49 0
     ∷ []
 
 pub examples : List Example
-unfolding flow-records sample-fields headers segments spans list-words refusals inputs undecoded
-examples = flow-records ++ sample-fields ++ headers ++ segments ++ spans ++ list-words ++ refusals ++ inputs ++ undecoded
+unfolding flow-records counter-records sample-fields headers segments spans list-words refusals inputs undecoded
+examples = flow-records ++ counter-records ++ sample-fields ++ headers ++ segments ++ spans ++ list-words ++ refusals ++ inputs ++ undecoded
 
 pub the-examples-hold : map (λ (e : Example). e .call (e .input)) examples ≡ map (λ (e : Example). e .result) examples
-unfolding examples be4 be8 among utf8 longest-to known header-protocols follow read-item address-of run-of field fields last-number opened flows flow samples datagram-to size rows header-of no-header valued reading layout-of answered read segment-at stored one tried datagrams run list-word payload-span whole-span
+unfolding examples be4 be8 among utf8 longest-to known header-protocols follow read-item address-of run-of field fields last-number opened flows flow counters samples datagram-to size rows header-of no-header valued reading layout-of answered read segment-at stored one tried datagrams run list-word payload-span whole-span
 the-examples-hold = refl
