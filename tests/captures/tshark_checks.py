@@ -3,9 +3,11 @@
 Where tshark and docs/RULES.md part, DECLARED says how and how often, and docs/DIFFERENCES.md why. A difference that is not declared is wrong,
 and so is a declared one that occurs more or less often."""
 import collections
+import random
 
+import figures
 import tshark
-from encoder import MAX_OPAQUE, pads
+from encoder import Body, COUNTER_SAMPLES, COUNTERS, MAX_OPAQUE, Wire, pads
 
 # beside the fields: whether the datagram is accepted, and whether a refusal's fault is what tshark reads at its place
 ACCEPTED, FAULT = (0, "accepted"), (0, "the fault")
@@ -86,6 +88,21 @@ def check(checks, captures):
     for reason, (in_captures, over_fields, _) in DECLARED.items():
         times = len(found[reason]), sum(found[reason].values())
         checks.same(f"tshark {reason}: in how many captures, over how many fields", (in_captures, over_fields), times)
+    check_counters(checks)
+
+
+def check_counters(checks):
+    """A record of each counter format, in both samples, made here: no capture has all of them."""
+    rng = random.Random(11)
+    wire = Wire(rng)
+    wire.datagram([wire.put_sample(name, [wire.put_record(Body(record, rng)) for record in COUNTERS]) for name in COUNTER_SAMPLES])
+    data = bytes(wire.data)
+    nodes, = figures.ours([(data, wire.rows)])
+    reading, = tshark.read([data])
+    expected = tshark.expected(wire.rows, nodes)
+    checks.same("each counter format: accepted, by tshark", (True, False), (reading.taken, reading.malformed))
+    for key in sorted(expected.keys() | reading.fields.keys()):
+        checks.same(f"each counter format: {key[1]} at {key[0]}, by tshark", reading.fields.get(key), expected.get(key))
 
 
 def compare(checks, one, reading, found):

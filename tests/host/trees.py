@@ -36,6 +36,17 @@ EXAMPLES = [
     ("extended_80211_rx", {"ssid": "guest", "bssid": bytes.fromhex("0a0b0c0d0e0f"), "version": 3, "speed": 54000000},
      ['ssid: "guest"', "bssid: 0a:0b:0c:0d:0e:0f", "version: 3 (802.11g)", "speed: 54000000 bit/s"]),
     ("extended_80211_tx", {"power": 100, "retrans_duration": 9}, ["power: 100 mW", "retrans_duration: 9 us"]),
+    ("generic_interface_counters", {"if_type": 6, "if_speed": 10 ** 9, "if_direction": 1, "if_status": 3, "if_in_octets": 7, "if_out_discards": 1},
+     ["if_type: 6 (ethernetCsmacd)", "if_speed: 1000000000 bit/s", "if_direction: 1 (full-duplex)", "if_status: 3 (ifAdminStatus up, ifOperStatus up)",
+      "if_in_octets: 7 octets", "if_out_discards: 1 packet"]),
+    ("generic_interface_counters", {"if_direction": 4, "if_status": 1, "if_out_octets": 2 ** 64 - 1, "if_in_errors": 2 ** 32 - 1, "if_promiscuous_mode": 2},
+     ["if_direction: 4 (out)", "if_status: 1 (ifAdminStatus up, ifOperStatus down)", "if_out_octets: 18446744073709551615 (unknown)",
+      "if_in_errors: 4294967295 (unknown)", "if_promiscuous_mode: 2 (false)"]),
+    ("ethernet_interface_counters", {"dot3_stats_fcs_errors": 2, "dot3_stats_late_collisions": 1},
+     ["dot3_stats_fcs_errors: 2 frames", "dot3_stats_late_collisions: 1 time"]),
+    ("vg100_interface_counters", {"dot12_hc_out_high_priority_octets": 2 ** 32}, ["dot12_hc_out_high_priority_octets: 4294967296 octets"]),
+    ("processor_counters", {"cpu_5s": 2 ** 32 - 1, "cpu_1m": 1205, "cpu_5m": 10000, "total_memory": 2 ** 34},
+     ["cpu_5s: 4294967295 (unknown)", "cpu_1m: 1205 (12.05 %)", "cpu_5m: 10000 (100.00 %)", "total_memory: 17179869184 bytes"]),
 ]
 
 # RFC 5952's own rules and examples
