@@ -4,6 +4,7 @@ ghost use mathlib.Core.Path.{_≡_};
 ghost use lib.ListN.{length};
 ghost use Rattle.reading.specs.Sizes.{descriptor-words};
 use crate::heads;
+use crate::polled;
 use crate::records;
 use datagram::decode::Answer;
 use fields::descriptor::Words;
@@ -47,6 +48,18 @@ fn flow_record(s: &[u8], d: &Words, format: u32) {
     }
 }
 
+fn counter_record(s: &[u8], d: &Words, format: u32) {
+    match format {
+        1 => polled::generic_interface_counters(s, d),
+        2 => polled::ethernet_interface_counters(s, d),
+        3 => polled::token_ring_counters(s, d),
+        4 => polled::vg100_interface_counters(s, d),
+        5 => polled::vlan_counters(s, d),
+        1001 => polled::processor_counters(s, d),
+        _ => {}
+    }
+}
+
 fn sample(s: &[u8], d: &Words, format: u32) {
     match format {
         1 => heads::flow_sample(s, d),
@@ -66,6 +79,7 @@ fn descriptor(s: &[u8], d: &Words) {
         0 => heads::header(s, d),
         1 => sample(s, d, format),
         2 => flow_record(s, d, format),
+        3 => counter_record(s, d, format),
         _ => {}
     }
 }

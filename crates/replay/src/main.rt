@@ -12,6 +12,7 @@ use libc::STDIN_FILENO;
 
 mod each;
 mod heads;
+mod polled;
 mod print;
 mod records;
 mod values;
