@@ -1,2 +1,3 @@
 pub mod Sizes
 pub mod Shown
+pub mod Examples
