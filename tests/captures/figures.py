@@ -13,6 +13,7 @@ sys.path.insert(0, os.path.join(ROOT, "tests", "host"))
 import building
 from encoder import LAYOUTS, pads
 from library import DESCRIPTOR_WORDS
+from library_checks import spelt
 
 # the layout of a kind and a format, as a name and its fields, each with its shape
 BY_FORMAT = {row[:2]: name for name, row in LAYOUTS.items()}
@@ -109,13 +110,13 @@ def ours(datagrams):
     lines = []
     for data, rows in datagrams:
         lines.append("data " + data.hex())
-        lines += [f"read {BY_FORMAT[row[:2]]} " + " ".join(map(str, row)) for row in rows if row[:2] in BY_FORMAT]
+        lines += [f"read {BY_FORMAT[row[:2]]} {spelt(row)}" for row in rows if row[:2] in BY_FORMAT]
     printed = iter(called(lines))
     return [[node_of(data, row, printed) for row in rows] for data, rows in datagrams]
 
 
 def node_of(data, row, printed):
-    kind, form, start, length, parent, depth, _ = row
+    kind, form, start, length, parent, depth, *_ = row
     name, place = BY_FORMAT.get((kind, form)), Place(kind, form, parent, depth)
     if not name:
         return Node(place, raw=data[start:start + length])

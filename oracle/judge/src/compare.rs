@@ -182,7 +182,7 @@ impl Judge {
 
     /// All of what a descriptor of the input stands for; of a sample or record it is read once more, from its first byte on.
     fn whole(&self, data: &[u8], descriptor: &Descriptor) -> Checked {
-        let [kind, format, start, length, _, _, first] = *descriptor;
+        let [kind, format, start, length, _, _, first, ..] = *descriptor;
         let whole = self.library.whole(data, descriptor);
         same("whole", &(whole.start, whole.count), &paper::whole(data, descriptor))?;
         if !matches!(kind, SAMPLE | FLOW | COUNTER) {
@@ -213,7 +213,7 @@ impl Judge {
     /// field reading looks at.
     fn changed_fields(&mut self, data: &[u8], descriptor: &Descriptor, pick: usize) -> Checked {
         let mut changed = *descriptor;
-        let [.., first] = &mut changed;
+        let [_, _, _, _, _, _, first, ..] = &mut changed;
         *first = !*first;
         let own = row_of(descriptor[0], descriptor[1]);
         let mut row = own.unwrap_or(pick % LAYOUTS.len());
@@ -336,7 +336,7 @@ impl Judge {
     }
 
     fn equal_node(&self, data: &[u8], descriptor: &Descriptor, node: &Node) -> Checked {
-        let [kind, format, _, _, parent, depth, first] = *descriptor;
+        let [kind, format, _, _, parent, depth, first, ..] = *descriptor;
         let place = (node.kind, node.format, node.parent, node.depth);
         same("the crate: kind, format, parent, depth", &(kind, format, parent, depth), &place)?;
         if matches!(kind, SAMPLE | FLOW | COUNTER) {

@@ -126,7 +126,7 @@ impl Library {
         match (self.fault, answer.code) {
             (1, 2) => answer.at += 4,
             (2, 0) => answer.steps += 1,
-            (4, 0) => spoil(store, written, |[kind, .., depth, _]| *depth += u32::from(*kind == PDU)),
+            (4, 0) => spoil(store, written, |[kind, _, _, _, _, depth, ..]| *depth += u32::from(*kind == PDU)),
             (5, 0) if written < store.len() => store[written] = 0,
             (6, 1..) if !store.is_empty() => store[0] = 0,
             (9, 8) | (14, 7) => answer.code = 2,
@@ -197,7 +197,7 @@ fn has_rubbish_only(data: &[u8]) -> bool {
 
 /// Spoils the last value of a header with the first of 48 bytes behind its datagram, none of them zero.
 fn take_in_tail(data: &[u8], descriptor: &Descriptor, values: &mut [Value]) {
-    let [_, _, start, length, _, _, first] = *descriptor;
+    let [_, _, start, length, _, _, first, ..] = *descriptor;
     let end = start.saturating_add(length) as usize;
     let behind = data.get(end..end.saturating_add(48)).filter(|bytes| !bytes.contains(&0));
     // Where the comparison has changed a descriptor, its first byte too, the datagram does not end there.
@@ -208,7 +208,7 @@ fn take_in_tail(data: &[u8], descriptor: &Descriptor, values: &mut [Value]) {
 
 /// Of these kinds, the first byte is the start.
 fn spoil_firsts(store: &mut [u32], written: usize, kinds: &[u32]) {
-    spoil(store, written, |[kind, _, start, .., first]| {
+    spoil(store, written, |[kind, _, start, _, _, _, first, ..]| {
         if kinds.contains(kind) {
             *first = *start;
         }

@@ -243,7 +243,7 @@ impl Pads {
 
 /// What a pad is behind: the payload of a sample or record, or else a string or an opaque in a record.
 fn place_of(pad: &Range<usize>, store: &[Descriptor]) -> Place {
-    let encloses = |&&[kind, _, start, length, _, _, first]: &&Descriptor| {
+    let encloses = |&&[kind, _, start, length, _, _, first, ..]: &&Descriptor| {
         let behind = (start + length.next_multiple_of(4)) as usize;
         matches!(kind, SAMPLE | FLOW | COUNTER) && (first as usize) < pad.start && pad.end <= behind
     };

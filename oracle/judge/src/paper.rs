@@ -376,7 +376,7 @@ pub fn fields(data: &[u8], descriptor: &Descriptor, layout: &Layout) -> ((u32, u
 /// Where all of what a descriptor stands for lies, from its first byte to the end of its pad: nothing where the input is too long or ends
 /// before that, or where its first byte is behind its start.
 pub fn whole(data: &[u8], descriptor: &Descriptor) -> (usize, usize) {
-    let [_, _, start, length, _, _, first] = descriptor.map(|word| word as usize);
+    let [_, _, start, length, _, _, first, ..] = descriptor.map(|word| word as usize);
     let end = start + length.div_ceil(4) * 4;
     if data.len() > MAX_INPUT || end > data.len() || first > start {
         return (0, 0);

@@ -46,7 +46,7 @@ fn header(datagram: &SFlowDatagram) -> Vec<Value> {
 /// Whether the crate's structure is that of the descriptors.
 fn agrees(data: &[u8], reading: &Reading, datagrams: &[SFlowDatagram]) -> Checked {
     let nodes = structure::nodes(datagrams);
-    let ours: Vec<_> = reading.store.iter().map(|&[kind, format, _, _, parent, depth, _]| (kind, format, parent, depth)).collect();
+    let ours: Vec<_> = reading.store.iter().map(|&[kind, format, _, _, parent, depth, ..]| (kind, format, parent, depth)).collect();
     let crates: Vec<_> = nodes.iter().map(|node| (node.kind, node.format, node.parent, node.depth)).collect();
     same("the rules and the crate: descriptors", &ours, &crates)?;
     for (descriptor, node) in reading.store.iter().zip(&nodes) {
@@ -197,8 +197,8 @@ impl Case {
             put_header(&mut line, header);
         }
         let _ = write!(line, " kept={}", self.words - store.len() * DESCRIPTOR_WORDS);
-        for [kind, format, start, length, parent, depth, first] in store {
-            let _ = write!(line, "; {kind},{format},{start},{length},{parent},{depth},{first}");
+        for descriptor in store {
+            let _ = write!(line, "; {}", descriptor.map(|word| word.to_string()).join(","));
         }
         Ok(line + "\n")
     }
@@ -211,7 +211,7 @@ const LONGEST: usize = 260;
 /// An input is taken where it reaches a format, code or class that fewer than so many before it reach.
 const EACH: usize = 14;
 /// The spare words of a store are fewer than this: from none to more than a descriptor's.
-const SPARE: usize = 12;
+const SPARE: usize = DESCRIPTOR_WORDS + 5;
 
 /// The inputs that are taken, and what they reach.
 fn chosen(seed: u64) -> (Vec<Vec<u8>>, Tally) {
