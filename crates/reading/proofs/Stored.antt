@@ -5,7 +5,6 @@ use mathlib.Core.Path.{_≡_, refl, sym, ap, _∙_}
 use mathlib.Core.List.{List, [], _∷_, _++_, append-nil, append-assoc}
 use native.Mathlib.Omega.{arith}
 use native.Mathlib.Nat.{add-zero, zero-add, suc-add}
-use native.Mathlib.Numerals.{towards-suc}
 use lib.ListN.{length, set, take, drop, length-append, length-drop, take-append-drop, drop-of-length-le}
 use lib.Seq.{sets, length-sets, sets-eq, set-comm, take-all, length-take-le}
 use Rattle.reading.specs.Script.{Range, Forest, bare, tree, _⊕_}
@@ -48,11 +47,6 @@ write-then a b l i j e = rw e (sets-app a b l i)
 pub write-under : (a b l : List ℕ) (i j : ℕ) → j ≡ i + length a → write (write l j b) i a ≡ write l i (a ++ b)
 unfolding write
 write-under a b l i j e = rw e (sets-under a b l i)
-
--- seven stores in a row
-pub write-seven : (l : List ℕ) (i a b c d e f g : ℕ) → set (set (set (set (set (set (set l i a) (i + 1) b) (i + 2) c) (i + 3) d) (i + 4) e) (i + 5) f) (i + 6) g ≡ write l i (a ∷ b ∷ c ∷ d ∷ e ∷ f ∷ g ∷ [])
-unfolding write
-write-seven l i a b c d e f g = simp towards-suc
 
 -- all that is written from the first word on, and what stays behind it
 pub write-all : (l ws : List ℕ) → length ws ≤ length l → write l 0 ws ≡ ws ++ drop (length ws) l

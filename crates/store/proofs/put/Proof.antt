@@ -1,11 +1,13 @@
 use borrow.Author.Needs.{needs}
+use native.Mathlib.Numerals.{towards-suc}
 use native.Mathlib.Omega.{arith}
 use lib.ListN.{length-set}
-use Rattle.reading.proofs.Stored.{write-seven}
+use Rattle.reading.proofs.Stored.{write}
 use Rattle.store.proofs.put.Statement.{statement}
 use Rattle.store.proofs.put.Tie as tie
 
 pub put-spec : {M : Type 1} → statement M
+unfolding write
 put-spec =
     tie.close
     (tie.spec
@@ -30,5 +32,5 @@ put-spec =
     (λ c. search needs)  -- mul-store-7
     (λ c. simp length-set (omega arith))  -- slice-write-store-7
     (λ c. search needs)  -- same-length
-    (λ c. write-seven _ _ _ _ _ _ _ _ _)  -- returns
+    (λ c. simp towards-suc)  -- returns
     )
