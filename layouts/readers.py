@@ -50,13 +50,13 @@ def antt(name):
 
 def literal(type, pairs, indent, before='', after=''):
     """The lines of a struct's value; a value of several lines is a type and its own pairs."""
-    pad = ' ' * indent
+    pad, pairs = ' ' * indent, list(pairs)
+    short = ', '.join('%s: %s' % pair for pair in pairs)
+    if len(short) <= 18:  # what `rt fmt` leaves on one line
+        return ['%s%s%s { %s }%s' % (pad, before, type, short, after)]
     lines = ['%s%s%s {' % (pad, before, type)]
     for name, value in pairs:
-        if isinstance(value, tuple):
-            lines += literal(*value, indent + 4, name + ': ', ',')
-        else:
-            lines.append('%s    %s: %s,' % (pad, name, value))
+        lines += literal(*value, indent + 4, name + ': ', ',') if isinstance(value, tuple) else ['%s    %s: %s,' % (pad, name, value)]
     return lines + [pad + '}' + after]
 
 
