@@ -49,15 +49,20 @@ module _ (kind depth : ℕ) (body : ℕ → Script) (s : List ℕ) (c : Cursor) 
   pub held-cut : {x : Outcome} → r ≡ frame.Stop x → refusal x ≡ counted k (follow (framed kind depth body) s (place c))
   held-cut h = frame-stop kind depth body s (place c) k (rw h at e)
 
-  module _ {f : ℕ} {x : Span} {d : Cursor} (h : r ≡ frame.Got f x d) {m : Scanned}
+  module _ {f : ℕ} {x : Span} {d : Cursor} (h : r ≡ frame.Got f x d) (m : Scanned)
       (i : scanned-out m ≡ counted (k + 1) (follow (body f) (take (x .start + x .count) s) (place (record { at = x .start; steps = d .steps })))) where
-    pub held-stop : {y : Outcome} → m ≡ scanned.Stop y → refusal y ≡ counted k (follow (framed kind depth body) s (place c))
-    unfolding resumed
-    held-stop {y} w = sym (frame-held kind depth body s (place c) k (rw h at e) ∙ ap (resumed (d .at)) (sym (rw w at i)))
+    pub held-on : {o : Out ℕ} → o ≡ resumed (d .at) (scanned-out m) → o ≡ counted k (follow (framed kind depth body) s (place c))
+    held-on q = q ∙ ap (resumed (d .at)) i ∙ sym (frame-held kind depth body s (place c) k (rw h at e))
 
-    pub held-got : {u : Cursor} {j : ℕ} → m ≡ scanned.Got u j → got j (place (record { at = d .at; steps = u .steps })) ≡ counted k (follow (framed kind depth body) s (place c))
-    unfolding resumed
-    held-got {u} {j} w = sym (frame-held kind depth body s (place c) k (rw h at e) ∙ ap (resumed (d .at)) (sym (rw w at i)))
+-- on behind a frame
+module _ (end : ℕ) {m : Scanned} where
+  pub resumed-stop : {x : Outcome} → m ≡ scanned.Stop x → refusal x ≡ resumed end (scanned-out m)
+  unfolding resumed
+  resumed-stop e = rw e
+
+  pub resumed-got : {d : Cursor} {j : ℕ} → m ≡ scanned.Got d j → got j (place (record { at = end; steps = d .steps })) ≡ resumed end (scanned-out m)
+  unfolding resumed
+  resumed-got e = rw e
 
 -- ---- what a counter record holds
 module _ (sc : Script) (s : List ℕ) (c : Cursor) (k : ℕ) {r : Passed} (e : passed-out r nothing ≡ follow sc s (place c)) where
@@ -206,8 +211,9 @@ pub ruleset sampling = (
   frame-counts,
   frame-scan,
   held-cut,
-  held-stop,
-  held-got,
+  held-on,
+  resumed-stop,
+  resumed-got,
   data-stop,
   data-got,
   behind-cut,

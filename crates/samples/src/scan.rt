@@ -5,7 +5,7 @@ ghost use Rattle.reading.specs.Sizes.{depth-limit};
 ghost use Rattle.reading.specs.Bytes.{be4};
 ghost use Rattle.reading.specs.Cursor.{times, follow};
 ghost use Rattle.reading.specs.Layout.{words, opened, fixed-rows, flow, counters, counter, samples, sample};
-ghost use Rattle.reading.proofs.Counts.{counted};
+ghost use Rattle.reading.proofs.Counts.{counted, resumed};
 ghost use Rattle.xdr.specs.Shown.{place, Inside};
 ghost use Rattle.layout.specs.Scanned.{Scan, scanned-out};
 ghost use Rattle.layout.specs.Chain.{Ends};
@@ -23,6 +23,22 @@ use layout::frames::Scanned;
 use load;
 use xdr::Cursor;
 use xdr::Passed;
+
+// From what a frame held on behind its pad, at `end`.
+fn resumed(held: Scanned, end: usize) -> Scanned
+    ensures { λ r. ⌜ scanned-out r ≡ resumed end (scanned-out held) ⌝ }
+{
+    match held {
+        Scanned::Stop(r) => Scanned::Stop(r),
+        Scanned::Got(d, k) => Scanned::Got(
+            Cursor {
+                at: end,
+                steps: d.steps,
+            },
+            k,
+        ),
+    }
+}
 
 // What a counter record of this format holds: no descriptor more.
 fn counter_data(s: &[u8], c: Cursor, format: u32, count: usize) -> Scanned
@@ -49,16 +65,7 @@ fn counter_record(s: &[u8], c: Cursor, count: usize) -> Scanned
                 at: start,
                 steps: e.steps,
             };
-            match counter_data(&s[..end], inner, format, count + 1) {
-                Scanned::Stop(r) => Scanned::Stop(r),
-                Scanned::Got(d, k) => Scanned::Got(
-                    Cursor {
-                        at: e.at,
-                        steps: d.steps,
-                    },
-                    k,
-                ),
-            }
+            resumed(counter_data(&s[..end], inner, format, count + 1), e.at)
         }
     }
 }
@@ -170,16 +177,7 @@ fn one_sample(s: &[u8], c: Cursor, count: usize) -> Scanned
                 at: start,
                 steps: e.steps,
             };
-            match sample_data(&s[..end], inner, format, count + 1) {
-                Scanned::Stop(r) => Scanned::Stop(r),
-                Scanned::Got(d, k) => Scanned::Got(
-                    Cursor {
-                        at: e.at,
-                        steps: d.steps,
-                    },
-                    k,
-                ),
-            }
+            resumed(sample_data(&s[..end], inner, format, count + 1), e.at)
         }
     }
 }

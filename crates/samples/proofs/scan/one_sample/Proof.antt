@@ -13,9 +13,7 @@ one-sample-spec =
     (λ c. search sampling)  -- slice-aggregate-sample-data
     (λ c. search sampling)  -- add-sample-data
     (λ c κs. search sampling)  -- sample-data-requires
-    (λ c. search sampling)  -- enum-known-r-2
-    (λ c. search sampling)  -- enum-known-d
+    (λ c κs. search sampling)  -- resumed-requires
     (λ c. search sampling)  -- returns
     (λ c. search sampling)  -- returns-2
-    (λ c. search sampling)  -- returns-3
     )
