@@ -13,7 +13,7 @@ from statistics import median
 import build
 from library import MAX_INPUT
 from long import ENDINGS, LISTS, LONG, STRINGS
-from shapes import KINDS, with_record
+from shapes import COUNTER_KINDS, KINDS, with_counter, with_record
 
 MIB = MAX_INPUT // 16  # so that 16 of them are the longest input
 MOST = 17
@@ -88,6 +88,8 @@ def list_figures(count, pool):
         yield few == many, f"a list of 10 words and one of 1000000, {name}: {few} and {many} instructions, which must be equal"
     one, eight = pool.map(lambda form: instructions(count, "decode", 0, with_record(form, KINDS[form])), (1011, 3))
     yield eight - one < 7, f"a row of one word and one of eight: {one} and {eight} instructions, less than 7 more"
+    few, many = pool.map(lambda form: instructions(count, "decode", 0, with_counter(form, COUNTER_KINDS[form])), (5, 1))
+    yield many - few < 13, f"a counter record of 6 items and one of 19: {few} and {many} instructions, less than 13 more"
 
 
 def figures(timed):
