@@ -60,14 +60,6 @@ def literal(type, pairs, indent, before='', after=''):
     return lines + [pad + '}' + after]
 
 
-def by_widths(layout, before, first, after):
-    """The lines of a call that goes by the widths of a fixed layout."""
-    given = [first, 's', 'b"%s"' % ''.join('\\x%02x' % field.shape.size for field in layout.fields), str(layout.size)]
-    if len(', '.join(given)) <= BROADEST:
-        return ['        %s(%s)%s' % (before, ', '.join(given), after)]
-    return ['        %s(' % before, *('            %s,' % one for one in given), '        )' + after]
-
-
 def load(layout):
     """The lines of `load`: the fields of a fixed layout, each from its place."""
     fields = [('outcome', 'r')] + [(f.name, 'load::be%d(s, %s)' % (8 * f.shape.size, at)) for f, at in zip(layout.fields, layout.offsets())]
@@ -78,8 +70,8 @@ def load(layout):
 
 def fixed_lines(layout):
     """The lines that read a fixed layout, and those for where all of it was read."""
-    got = ['let at = row.at;', '%s::load(d.accepted(), &s[at..])' % layout.type]
-    return [*by_widths(layout, 'let row = widths::read', 'p', ';'), '        let passed = row.passed;'], [' ' * 16 + line for line in got]
+    got = ['                let at = row.at;', '                %s::load(d.accepted(), &s[at..])' % layout.type]
+    return ['        let row = data::read(p, s, %d);' % layout.format, '        let passed = row.passed;'], got
 
 
 def step_lines(layout):
@@ -129,7 +121,7 @@ def source(about, layouts):
     contracts = '\n'.join(line for line in body.splitlines() if '⌜' in line)
     cited = [(module, needed(names.split(), contracts)) for module, names in CITES.items()]
     cited.append(('Rattle.%s.specs.Shown' % layouts[0].crate, [one.dashed for one in layouts]))
-    uses = sorted((['crate::widths', 'load'] if layouts[0].fixed else ['layout::field']) + ['%s::%s' % (USES[name], name) for name in needed(USES, body)])
+    uses = sorted((['crate::data', 'load'] if layouts[0].fixed else ['layout::field']) + ['%s::%s' % (USES[name], name) for name in needed(USES, body)])
     lines = ['// ' + MADE, '// ' + about, *('ghost use %s.{%s};' % (module, ', '.join(names)) for module, names in cited if names)]
     return '\n'.join(lines + ['use %s;' % name for name in uses]) + '\n' + body + '\n'
 
@@ -177,8 +169,7 @@ def fixed_proofs(layout):
     uses = ['use mathlib.Core.Path.{refl}', 'use Rattle.reading.specs.Layout.{counters}', 'use Rattle.reading.specs.Answer.{layout-of}',
             'use Rattle.xdr.proofs.Rows.{same-numbers}', 'use Rattle.counters.specs.Sizes.{sizes-of}',
             'use Rattle.counters.proofs.Reading.{fixed-read, reads}']
-    names = '''slice-aggregate-read read-requires enum-known-passed none-requires enum-known-passed accepted-requires sub-load
-        part-load-start part-load-end load-requires returns'''
+    names = 'read-requires enum-known-passed none-requires enum-known-passed accepted-requires sub-load part-load-start part-load-end load-requires returns'
     loads, numbers = ['be%d-requires' % (8 * field.shape.size) for field in layout.fields], '(refl, search same-numbers depth 30)'
     for name, shown, last in ('load', loads, numbers), ('parse', names.split(), 'search (fixed-read (sizes-of %d))' % layout.format):
         pairs = [('search reads', one) for one in shown] + [(last, 'returns')]
@@ -188,28 +179,34 @@ def fixed_proofs(layout):
 def arm(layout):
     """How the framing passes a payload: an arm of its table."""
     if layout.fixed:
-        return '\n'.join(by_widths(layout, '%d => widths::pass' % layout.format, 'c', ',')) + '\n'
+        return '        %d => Extent(%d, %d),\n' % (layout.format, layout.size, len(layout.fields))
     calls = ['.' + Step(run).passed for run in layout.runs()] + ['.passed']
-    broad = len('row' + ''.join(calls)) > BROADEST
-    return '        %d => row%s,\n' % (layout.format, ('\n            ' if broad else '').join(calls))
+    return '        %d => row%s,\n' % (layout.format, ('\n            ' if len('row' + ''.join(calls)) > BROADEST else '').join(calls))
 
 
-def arms_proof(layouts):
-    """What each arm asks, and what it answers; the last one is that of a number of no row."""
-    asked = [('search passing', step.passed.partition('(')[0] + '-requires') for one in layouts for step in map(Step, one.runs())]
-    if layouts[0].fixed:
-        asked = [('search passing', name) for one in layouts for name in ('slice-aggregate-pass', 'pass-requires')]
-    return goals(asked + [('search (arm %d, passing)' % one.format, 'returns') for one in layouts] + [('search raw', 'returns')])
+def arms_proofs(layouts):
+    """What each arm asks, and what it answers; the last one is that of a number of no row. Of fixed layouts: of what has their sizes, and their widths."""
+    if not layouts[0].fixed:
+        asked = [('search passing', step.passed.partition('(')[0] + '-requires') for one in layouts for step in map(Step, one.runs())]
+        return [('data/pass', goals(asked + [('search (arm %d, passing)' % one.format, 'returns') for one in layouts] + [('search raw', 'returns')]))]
+    asked = [('search (short-of %d, needs)' % one.format, name) for one in layouts for name in ('slice-aggregate-first-cut', 'first-cut-requires')]
+    cut = [('search needs', 'refusal-requires')] + [('search (cut-of %d, needs)' % one.format, 'returns') for one in layouts] + [('search (none-cut, none)', 'returns')]
+    sizes = [('search (bytes-of %d, items-of %d)' % (one.format, one.format), 'returns') for one in layouts] + [('search none', 'returns')]
+    return [('data/fixed', goals(sizes)), ('widths/cut', goals(asked + cut))]
+
+
+def cut_arm(layout):
+    """How a fixed layout that is cut is gone through: by the widths of its fields."""
+    given = 'c, s, b"%s"' % ''.join('\\x%02x' % field.shape.size for field in layout.fields)
+    broad = '\n            %s,\n        ' % given.replace(', ', ',\n            ')
+    return '        %d => first_cut(%s),\n' % (layout.format, broad if len(given) > BROADEST else given)
 
 
 def raw(layouts):
     """The law that a number of no row stays raw."""
     numbers = [layout.format for layout in layouts]
-    table, name = ('fixed-rows counters', 'counters') if layouts[0].fixed else ('flows (give nothing)', 'flows')
-    return '''pub raw : (s : List ℕ) (c : Cursor) (f : ℕ) → %s
-    → got nothing (place c) ≡ follow (opened (%s) f) s (place c)
-unfolding opened %s follow
-raw s c f %s = simp (%s)
-
-''' % (' → '.join('(f ≡ %d → ⊥)' % n for n in numbers), table, name, ' '.join('z%d' % n for n in numbers),
-       ', '.join('ne-eqb %d f (λ e. z%d (sym e))' % (n, n) for n in numbers))
+    shown = ('(s : List ℕ) (c : Cursor) ', 'got nothing (place c) ≡ follow (opened (flows (give nothing)) f) s (place c)', 'opened flows follow', 's c ')
+    given, says, unfolds, names = ('', 'sizes-of f ≡ []', 'sizes-of counters', '') if layouts[0].fixed else shown
+    not_one, laws = ' '.join('z%d' % n for n in numbers), ', '.join('ne-eqb %d f (λ e. z%d (sym e))' % (n, n) for n in numbers)
+    lines = ['pub raw : %s(f : ℕ) → %s' % (given, ' → '.join('(f ≡ %d → ⊥)' % n for n in numbers)), '    → ' + says, 'unfolding ' + unfolds]
+    return '\n'.join([*lines, 'raw %sf %s = simp (%s)' % (names, not_one, laws), '', ''])

@@ -1,3 +1,3 @@
-pub mod Passing
 pub mod Formats
+pub mod Passing
 pub mod Reading

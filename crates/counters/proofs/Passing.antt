@@ -12,16 +12,21 @@ use lib.ListN.{length, drop, getD, drop-of-length-le}
 use lib.Seq.{drop-cons}
 use mir.Syntax.{w64}
 use mir.Val.{Fits}
-use Rattle.reading.specs.Layout.{Size, u32, u64, size-of, widths, total}
+use Rattle.reading.specs.Script.{Value, nothing, Script}
+use Rattle.reading.specs.Cursor.{got, follow}
+use Rattle.reading.specs.Layout.{Size, u32, u64, size-of, widths, total, opened, fixed-rows, counters}
 use Rattle.reading.proofs.Fields.{fields-out}
 use Rattle.reading.proofs.Widths.{numbers, some-bytes, widths-got, widths-cut, widths-halt}
 use Rattle.xdr.specs.declared.Cursor.{Cursor}
 use Rattle.xdr.specs.declared.Outcome.{Outcome}
+use Rattle.xdr.specs.declared.Passed.{Passed}
 use Rattle.xdr.specs.declared.Passed.the-variants as passed
-use Rattle.xdr.specs.Shown.{Inside, place, refused, behind, refusal}
-use Rattle.layout.specs.Chain.{Then, goes, halts}
+use Rattle.xdr.specs.Shown.{Inside, place, passed-out, refused, behind, refusal}
+use Rattle.layout.specs.Chain.{Then, goes, halts, ends}
 use Rattle.layout.proofs.Chain.{unsure, within-got, handed-on, from-there}
-use Rattle.counters.specs.Sizes.{size, width, sizes, Has-bytes}
+use Rattle.layout.proofs.Whole.{whole}
+use Rattle.counters.specs.Sizes.{size, width, sizes, sizes-of, Has-bytes}
+use Rattle.counters.proofs.Formats.{opened-is}
 
 -- ---- a width
 
@@ -106,25 +111,35 @@ pub ruleset one-by-one = (width-eight, width-four, left-all, left-some, left-ins
 
 -- ---- all at once
 
-module _ (s w : List ℕ) {n : ℕ} (e : n ≡ total (sizes w)) {c : Cursor} (i : Inside s c) where
-  same-length : (l : List ℕ) → length (sizes l) ≡ length l
-  same-length [] = refl
-  same-length (x ∷ l) = ap suc (same-length l)
+module _ (s : List ℕ) (l : List Size) {n k : ℕ} (e : n ≡ total l) (g : k ≡ length l) {c : Cursor} (i : Inside s c) where
+  pub all-steps : length s < 2 ^ 64 → n ≤ length s - c .at → Fits w64 (c .steps + k)
+  all-steps z h = record { fits = omega (arith, some-bytes l, i .inside, i .counted) }
 
-  pub all-steps : length s < 2 ^ 64 → n ≤ length s - c .at → Fits w64 (c .steps + length w)
-  all-steps l h = record { fits = omega (arith, some-bytes (sizes w), same-length w, i .inside, i .counted) }
-
-  pub all-passed : n ≤ length s - c .at → Then (widths (sizes w)) s (passed.Got c) (passed.Got (record { at = c .at + n; steps = c .steps + length w })) (numbers (sizes w) s (c .at))
-  all-passed h = rw (e, ← same-length w) (goes (widths-got s (sizes w) (place c) (omega (arith, i .inside))) (record { inside = omega (arith, i .inside); counted = omega (arith, some-bytes (sizes w), i .counted) }))
+  pub all-passed : n ≤ length s - c .at → Then (widths l) s (passed.Got c) (passed.Got (record { at = c .at + n; steps = c .steps + k })) (numbers l s (c .at))
+  all-passed h = rw (e, g) (goes (widths-got s l (place c) (omega (arith, i .inside))) (record { inside = omega (arith, i .inside); counted = omega (arith, some-bytes l, i .counted) }))
 
 -- one is cut
-pub one-cut : (s w : List ℕ) {c : Cursor} {x : Outcome} → fields-out (widths (sizes w)) s (place c) ≡ refusal x → Then (widths (sizes w)) s (passed.Got c) (passed.Stop x) (numbers (sizes w) s (c .at))
-one-cut s w e = halts e
+pub one-cut : (s : List ℕ) (l : List Size) {c : Cursor} {x : Outcome} → fields-out (widths l) s (place c) ≡ refusal x → Then (widths l) s (passed.Got c) (passed.Stop x) (numbers l s (c .at))
+one-cut s l e = halts e
 
-pub bytes-there : {n : ℕ} {s : List ℕ} {c d : Cursor} → Inside s c → n ≤ length s - c .at → Has-bytes n s (passed.Got d) (c .at)
-bytes-there i h = record { fits = λ w. omega (arith, i .inside) }
+-- either way it is what the table opens
+opens : (s : List ℕ) (f : ℕ) {c : Cursor} {p : Passed} {vs : List Value} → Then (widths (sizes-of f)) s (passed.Got c) p vs → passed-out p nothing ≡ follow (opened (fixed-rows counters) f) s (place c)
+opens s f {c} t = whole (widths (sizes-of f)) s c (ends t) ∙ ap (λ (x : Script). follow x s (place c)) (sym (opened-is f))
+
+pub all-opened : (s : List ℕ) (f : ℕ) {n k : ℕ} {c : Cursor} → n ≡ total (sizes-of f) → k ≡ length (sizes-of f) → Inside s c → n ≤ length s - c .at
+    → got nothing (place (record { at = c .at + n; steps = c .steps + k })) ≡ follow (opened (fixed-rows counters) f) s (place c)
+all-opened s f e g i h = opens s f (all-passed s (sizes-of f) e g i h)
+
+pub cut-opened : (s : List ℕ) (f : ℕ) (c : Cursor) {x : Outcome} → fields-out (widths (sizes-of f)) s (place c) ≡ refusal x → refusal x ≡ follow (opened (fixed-rows counters) f) s (place c)
+cut-opened s f c e = opens s f (one-cut s (sizes-of f) e)
+
+pub bytes-there : {n m : ℕ} {s : List ℕ} {c d : Cursor} → Inside s c → n ≡ m → n ≤ length s - c .at → Has-bytes m s (passed.Got d) (c .at)
+bytes-there i e h = record { fits = λ w. omega (arith, i .inside) }
 
 pub no-bytes : {n : ℕ} {s : List ℕ} {x : Outcome} {at : ℕ} → Has-bytes n s (passed.Stop x) at
 no-bytes = record { fits = λ w. unsure (w .is) }
 
-pub ruleset at-once = (all-steps, all-passed, one-cut, bytes-there, no-bytes, within-got, handed-on, from-there, needs)
+pub cut-short : {n m a b : ℕ} → n ≡ m → b ≤ a → a - b < n → a < b + m
+cut-short e i h = omega arith
+
+pub ruleset at-once = (all-steps, all-passed, one-cut, all-opened, cut-opened, bytes-there, no-bytes, cut-short, within-got, handed-on, from-there, needs)

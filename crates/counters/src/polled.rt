@@ -13,7 +13,7 @@ ghost use Rattle.xdr.specs.Shown.{Answers};
 ghost use Rattle.layout.specs.Chain.{Within};
 ghost use Rattle.counters.specs.Sizes.{sizes-of};
 ghost use Rattle.counters.specs.Shown.{generic-interface-counters, ethernet-interface-counters, token-ring-counters, vg100-interface-counters, vlan-counters, processor-counters};
-use crate::widths;
+use crate::data;
 use load;
 use xdr::Outcome;
 use xdr::Passed;
@@ -103,12 +103,7 @@ impl GenericInterfaceCounters {
         requires { ⌜ Within (now s) p ⌝ }
         ensures { λ r. ⌜ Answers (layout-of 3 1) (now (s .entry)) p (r .outcome) (generic-interface-counters r) ⌝ }
     {
-        let row = widths::read(
-            p,
-            s,
-            b"\x04\x04\x08\x04\x04\x08\x04\x04\x04\x04\x04\x04\x08\x04\x04\x04\x04\x04\x04",
-            88,
-        );
+        let row = data::read(p, s, 1);
         let passed = row.passed;
         match passed {
             Passed::Stop(r) => GenericInterfaceCounters::none(r),
@@ -187,12 +182,7 @@ impl EthernetInterfaceCounters {
         requires { ⌜ Within (now s) p ⌝ }
         ensures { λ r. ⌜ Answers (layout-of 3 2) (now (s .entry)) p (r .outcome) (ethernet-interface-counters r) ⌝ }
     {
-        let row = widths::read(
-            p,
-            s,
-            b"\x04\x04\x04\x04\x04\x04\x04\x04\x04\x04\x04\x04\x04",
-            52,
-        );
+        let row = data::read(p, s, 2);
         let passed = row.passed;
         match passed {
             Passed::Stop(r) => EthernetInterfaceCounters::none(r),
@@ -286,12 +276,7 @@ impl TokenRingCounters {
         requires { ⌜ Within (now s) p ⌝ }
         ensures { λ r. ⌜ Answers (layout-of 3 3) (now (s .entry)) p (r .outcome) (token-ring-counters r) ⌝ }
     {
-        let row = widths::read(
-            p,
-            s,
-            b"\x04\x04\x04\x04\x04\x04\x04\x04\x04\x04\x04\x04\x04\x04\x04\x04\x04\x04",
-            72,
-        );
+        let row = data::read(p, s, 3);
         let passed = row.passed;
         match passed {
             Passed::Stop(r) => TokenRingCounters::none(r),
@@ -373,12 +358,7 @@ impl Vg100InterfaceCounters {
         requires { ⌜ Within (now s) p ⌝ }
         ensures { λ r. ⌜ Answers (layout-of 3 4) (now (s .entry)) p (r .outcome) (vg100-interface-counters r) ⌝ }
     {
-        let row = widths::read(
-            p,
-            s,
-            b"\x04\x08\x04\x08\x04\x04\x04\x04\x04\x08\x04\x08\x08\x08",
-            80,
-        );
+        let row = data::read(p, s, 4);
         let passed = row.passed;
         match passed {
             Passed::Stop(r) => Vg100InterfaceCounters::none(r),
@@ -436,7 +416,7 @@ impl VlanCounters {
         requires { ⌜ Within (now s) p ⌝ }
         ensures { λ r. ⌜ Answers (layout-of 3 5) (now (s .entry)) p (r .outcome) (vlan-counters r) ⌝ }
     {
-        let row = widths::read(p, s, b"\x04\x08\x04\x04\x04\x04", 28);
+        let row = data::read(p, s, 5);
         let passed = row.passed;
         match passed {
             Passed::Stop(r) => VlanCounters::none(r),
@@ -491,7 +471,7 @@ impl ProcessorCounters {
         requires { ⌜ Within (now s) p ⌝ }
         ensures { λ r. ⌜ Answers (layout-of 3 1001) (now (s .entry)) p (r .outcome) (processor-counters r) ⌝ }
     {
-        let row = widths::read(p, s, b"\x04\x04\x04\x08\x08", 28);
+        let row = data::read(p, s, 1001);
         let passed = row.passed;
         match passed {
             Passed::Stop(r) => ProcessorCounters::none(r),

@@ -12,7 +12,7 @@ use Rattle.reading.specs.Sizes.{depth-limit}
 use Rattle.reading.specs.Script.{Value, nothing, word, Script, give, repeat}
 use Rattle.reading.specs.Cursor.{Out, got, times, follow}
 use Rattle.reading.specs.Bytes.{be4}
-use Rattle.reading.specs.Layout.{Field, plain, fields, words, last-number, opened, framed, flow, counter, samples, sample}
+use Rattle.reading.specs.Layout.{Field, plain, fields, words, widths, total, fixed-rows, counters, last-number, opened, framed, flow, counter, samples, sample}
 use Rattle.reading.proofs.Fields.{fields-out}
 use Rattle.reading.proofs.Words.{numbers, last-word}
 use Rattle.reading.proofs.Counts.{counted, counted-stop, counted-none, resumed, frame-at, frame-stop, frame-held, fields-stop, each-held}
@@ -34,6 +34,8 @@ use Rattle.flows.specs.Passing.{Ahead-of}
 use Rattle.layout.specs.Chain.{Then, goes, halts, Ends, ends, There}
 use Rattle.layout.proofs.Chain.{both, within-start, within-ends}
 use Rattle.layout.proofs.Scan.{scan-inside, scan-short, Thrift, scan-on, scan-done, scan-turn, scan-stop, frame-ends, frame-fits, frame-part, frame-counts, frame-scan}
+use Rattle.counters.specs.Sizes.{sizes-of}
+use Rattle.counters.proofs.Passing.{all-steps, all-opened, cut-opened, cut-short}
 use Rattle.samples.specs.declared.kinds.SampleKind.{SampleKind}
 use Rattle.samples.specs.declared.kinds.SampleKind.the-variants as kind
 use Rattle.samples.specs.Held.{counted-by-last, held, words-of, Is-kind, Counted, on, over, Has-last, rest-of}
@@ -65,12 +67,13 @@ module _ (end : ℕ) {m : Scanned} where
   resumed-got e = rw e
 
 -- ---- what a counter record holds
-module _ (sc : Script) (s : List ℕ) (c : Cursor) (k : ℕ) {r : Passed} (e : passed-out r nothing ≡ follow sc s (place c)) where
-  pub data-stop : {x : Outcome} → r ≡ passed.Stop x → refusal x ≡ counted k (follow sc s (place c))
-  data-stop h = counted-stop k _ (rw h at e)
+module _ (f : ℕ) (s : List ℕ) (c : Cursor) (k : ℕ) where
+  pub data-cut : {x : Outcome} → fields-out (widths (sizes-of f)) s (place c) ≡ refusal x → refusal x ≡ counted k (follow (opened (fixed-rows counters) f) s (place c))
+  data-cut e = counted-stop k _ (cut-opened s f c e)
 
-  pub data-got : {d : Cursor} → r ≡ passed.Got d → got k (place d) ≡ counted k (follow sc s (place c))
-  data-got {d} h = counted-none k (place d) (rw h at e)
+  module _ {n m : ℕ} (e : n ≡ total (sizes-of f)) (g : m ≡ length (sizes-of f)) (i : Inside s c) (h : n ≤ length s - c .at) where
+    pub data-all : got k (place (record { at = c .at + n; steps = c .steps + m })) ≡ counted k (follow (opened (fixed-rows counters) f) s (place c))
+    data-all = counted-none k _ (all-opened s f e g i h)
 
 -- ---- what stands behind the fields
 module _ (body : Script) (s : List ℕ) (n k : ℕ) where
@@ -214,8 +217,10 @@ pub ruleset sampling = (
   held-on,
   resumed-stop,
   resumed-got,
-  data-stop,
-  data-got,
+  data-cut,
+  data-all,
+  all-steps,
+  cut-short,
   behind-cut,
   behind-got,
   behind-last,

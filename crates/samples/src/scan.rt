@@ -13,6 +13,7 @@ ghost use Rattle.samples.specs.Held.{Counted, Has-last, rest-of};
 use crate::kinds::SampleKind;
 use crate::kinds::kind_of;
 use counters::data;
+use counters::widths;
 use flows::MAX_DEPTH;
 use flows::scan;
 use flows::scan_ahead;
@@ -40,15 +41,24 @@ fn resumed(held: Scanned, end: usize) -> Scanned
     }
 }
 
-// What a counter record of this format holds: no descriptor more.
+// What a counter record of this format holds, by one comparison: no descriptor more.
 fn counter_data(s: &[u8], c: Cursor, format: u32, count: usize) -> Scanned
     requires { ⌜ Scan (now s) c count ⌝ }
     ensures { λ r. ⌜ scanned-out r ≡ counted count (follow (opened (fixed-rows counters) format) (now (s .entry)) (place c)) ⌝ }
 {
-    match data::pass(c, s, format) {
-        Passed::Stop(r) => Scanned::Stop(r),
-        Passed::Got(d) => Scanned::Got(d, count),
+    let at = c.at;
+    let steps = c.steps;
+    let row = data::fixed(format);
+    if s.len() - at < row.0 {
+        return Scanned::Stop(widths::cut(c, &*s, format));
     }
+    Scanned::Got(
+        Cursor {
+            at: at + row.0,
+            steps: steps + row.1,
+        },
+        count,
+    )
 }
 
 // One counter record.

@@ -6,9 +6,11 @@ pub counter-data-spec : {M : Type 1} → statement M
 counter-data-spec =
     tie.close
     (tie.spec
-    (λ c κs. search sampling)  -- pass-requires
-    (λ c. search sampling)  -- enum-known-r
-    (λ c. search sampling)  -- enum-known-d
+    (λ c κs. search sampling)  -- fixed-requires
+    (λ c. search sampling)  -- sub-if1
+    (λ c κs. search sampling)  -- cut-requires
+    (λ c. search sampling)  -- add-t7
+    (λ c. search sampling)  -- add-t13
     (λ c. search sampling)  -- returns
     (λ c. search sampling)  -- returns-2
     )

@@ -13,7 +13,6 @@ unfolding layout-of sizes-of counters
 parse-spec =
     tie.close
     (tie.spec
-    (λ c. search reads)  -- slice-aggregate-read
     (λ c κs. search reads)  -- read-requires
     (λ c. search reads)  -- enum-known-passed
     (λ c κs. search reads)  -- none-requires

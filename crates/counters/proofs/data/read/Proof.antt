@@ -1,6 +1,6 @@
 use Rattle.counters.proofs.Passing.{at-once}
-use Rattle.counters.proofs.widths.read.Statement.{statement}
-use Rattle.counters.proofs.widths.read.Tie as tie
+use Rattle.counters.proofs.data.read.Statement.{statement}
+use Rattle.counters.proofs.data.read.Tie as tie
 
 pub read-spec : {M : Type 1} → statement M
 read-spec =
