@@ -66,4 +66,3 @@ pub none-cut : (f : ℕ) (s : List ℕ) (c : Cursor) {x : Outcome} → sizes-of 
 none-cut f s c e i h = absurd (omega (arith, i .inside, ap total e, h))
 
 pub ruleset none = (no-bytes, no-items, raw, needs)
-
