@@ -132,8 +132,7 @@ good-opened (counts {g} {l} h t) f = two (eqb g f) (good-fields l (λ vs. good-e
 
 good-flows : {a : Script} → Good a → Rows (flows a)
 unfolding flows
-good-flows h =
-    flat (flat (flat (flat (flat (flat (flat (flat (flat (flat (flat (flat (flat (flat (flat (flat (flat (flat (flat (counts h over-all)))))))))))))))))))
+good-flows h = search (flat, counts, over-all) depth 200
 
 good-flow : (longest-input left : ℕ) → Good (flow longest-input left)
 unfolding flow Is

@@ -110,8 +110,7 @@ module _ (n m : ℕ) where
 
   both-flows : {a b : Script} → Both n m a b → Rows (flows a) (flows b)
   unfolding flows
-  both-flows h =
-      flat (flat (flat (flat (flat (flat (flat (flat (flat (flat (flat (flat (flat (flat (flat (flat (flat (flat (flat (counts h over)))))))))))))))))))
+  both-flows h = search (flat, counts, over) depth 200
 
   both-fixed : (t : List Fixed) → Rows (fixed-rows t) (fixed-rows t)
   both-fixed [] = over

@@ -146,8 +146,7 @@ orderly-pdu depth body w o s p a q h e = go (pdu-read depth body s p e)
 
 orderly-flows : (inner : Script) → Orderly inside (follow inner) → Rows (flows inner)
 unfolding flows
-orderly-flows inner h =
-    flat (flat (flat (flat (flat (flat (flat (flat (flat (flat (flat (flat (flat (flat (flat (flat (flat (flat (flat (counts h over)))))))))))))))))))
+orderly-flows inner h = search (flat, counts, over) depth 200
 
 orderly-flow : (limit left : ℕ) → Orderly inside (follow (flow limit left))
 unfolding flow follow

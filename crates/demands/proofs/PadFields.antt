@@ -231,8 +231,7 @@ good-pdu depth body g s t p a q b =
 
 good-flows : (inner : Script) → Good inner → Rows (flows inner)
 unfolding flows
-good-flows inner g =
-    flat (flat (flat (flat (flat (flat (flat (flat (flat (flat (flat (flat (flat (flat (flat (flat (flat (flat (flat (counts g over)))))))))))))))))))
+good-flows inner g = search (flat, counts, over) depth 200
 
 opens-flow : (inner : Script) → Good inner → (f : ℕ) → Opens (layout-of 2 f) (opened (flows inner) f)
 unfolding layout-of flows

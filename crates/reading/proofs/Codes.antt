@@ -65,9 +65,7 @@ fair-at (counts {g} e h t) f = either (λ (l : List Field). fair l ≡ true) (eq
 
 coded-flows : {inner : Script} → Coded inner → Rows (flows inner)
 unfolding flows
-coded-flows h =
-    flat refl (flat refl (flat refl (flat refl (flat refl (flat refl (flat refl (flat refl (flat refl (flat refl (flat refl (flat refl (flat refl (flat refl (flat refl
-    (flat refl (flat refl (flat refl (flat refl (counts refl h none)))))))))))))))))))
+coded-flows h = search (flat, counts, none) depth 200
 
 -- a fixed layout, and a table of them
 fair-widths : (l : List Size) → fair (widths l) ≡ true

@@ -15,7 +15,7 @@ use Rattle.reading.proofs.Places.{ranges-of}
 data Flat (f : ℕ) : List Row → Type 0 where
   none : Flat f []
   flat : {r : Row} {rest : List Row} → r .more ≡ (λ _. give nothing) → Flat f rest → Flat f (r ∷ rest)
-  not-this : {r : Row} {rest : List Row} → (r .format ≡ f → ⊥) → Flat f rest → Flat f (r ∷ rest)
+  not-this : {r : Row} {rest : List Row} → (f ≡ r .format → ⊥) → Flat f rest → Flat f (r ∷ rest)
 
 bare-fields : (l : List Field) (s : List ℕ) (p : Place) → ranges-of (follow (fields l (λ _. give nothing)) s p) ≡ bare
 unfolding ranges-of follow
@@ -33,7 +33,7 @@ bare-opened f rows (flat {r} {rest} e t) s p = go (eqb (r .format) f) (bare-open
     go : (b : Bool) → ranges-of (follow (opened rest f) s p) ≡ bare → ranges-of (follow (cond b (fields (r .layout) (r .more)) (opened rest f)) s p) ≡ bare
     go true h = ap (λ (m : List Value → Script). ranges-of (follow (fields (r .layout) m) s p)) e ∙ bare-fields (r .layout) s p
     go false h = h
-bare-opened f rows (not-this {r} {rest} z t) s p = rw (ne-eqb (r .format) f z) (bare-opened f rest t s p)
+bare-opened f rows (not-this {r} {rest} z t) s p = rw (ne-eqb (r .format) f (λ e. z (sym e))) (bare-opened f rest t s p)
 
 pub fixed-bare : (t : List Fixed) (f : ℕ) (s : List ℕ) (p : Place) → ranges-of (follow (opened (fixed-rows t) f) s p) ≡ bare
 fixed-bare t f s p = bare-opened f (fixed-rows t) (go t) s p
@@ -44,7 +44,4 @@ fixed-bare t f s p = bare-opened f (fixed-rows t) (go t) s p
 
 pub other-bare : (inner : Script) (f : ℕ) (s : List ℕ) (p : Place) → (f ≡ 1016 → ⊥) → ranges-of (follow (opened (flows inner) f) s p) ≡ bare
 unfolding flows
-other-bare inner f s p z =
-    bare-opened f (flows inner)
-    (flat refl (flat refl (flat refl (flat refl (flat refl (flat refl (flat refl (flat refl (flat refl (flat refl (flat refl (flat refl (flat refl (flat refl (flat refl
-    (flat refl (flat refl (flat refl (flat refl (not-this (λ e. z (sym e)) none)))))))))))))))))))) s p
+other-bare inner f s p z = bare-opened f (flows inner) (search (flat, not-this, none) depth 200) s p

@@ -92,8 +92,7 @@ good-pdu depth body h s p a q e =
 
 good-flows : (inner : Script) → Good (follow inner) → Rows (flows inner)
 unfolding flows
-good-flows inner h =
-    flat (flat (flat (flat (flat (flat (flat (flat (flat (flat (flat (flat (flat (flat (flat (flat (flat (flat (flat (counts h over)))))))))))))))))))
+good-flows inner h = search (flat, counts, over) depth 200
 
 good-fixed : (t : List Fixed) → Rows (fixed-rows t)
 good-fixed [] = over

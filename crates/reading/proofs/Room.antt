@@ -112,12 +112,7 @@ thrifty-pdu depth body t s p a q h e =
 
 thrifty-flows : (inner : Script) → Thrifty (follow inner) → All (flows inner)
 unfolding flows
-thrifty-flows inner t =
-    more (thrifty-flat _) (more (thrifty-flat _) (more (thrifty-flat _) (more (thrifty-flat _) (more (thrifty-flat _)
-    (more (thrifty-flat _) (more (thrifty-flat _) (more (thrifty-flat _) (more (thrifty-flat _) (more (thrifty-flat _)
-    (more (thrifty-flat _) (more (thrifty-flat _) (more (thrifty-flat _) (more (thrifty-flat _) (more (thrifty-flat _)
-    (more (thrifty-flat _) (more (thrifty-flat _) (more (thrifty-flat _) (more (thrifty-flat _)
-    (more (thrifty-each _ inner t) none)))))))))))))))))))
+thrifty-flows inner t = search (more, none, thrifty-flat, thrifty-each) depth 200
 
 pub thrifty-flow : (limit left : ℕ) → Thrifty (follow (flow limit left))
 unfolding flow follow
