@@ -54,7 +54,7 @@ static void tell(const char *who, const uint8_t *text, size_t length, latchplume
 
 /* What the field reading of the record answers, as a call that decodes would: with the items before it, and all descriptors or none. */
 static latchplume_answer fields(const uint8_t *data, size_t length) {
-    const uint32_t record[] = {LATCHPLUME_FLOW_RECORD, 1005, PAYLOAD, (uint32_t)length - PAYLOAD, 1, 1, PAYLOAD - 8};
+    const uint32_t record[LATCHPLUME_DESCRIPTOR_WORDS] = {LATCHPLUME_FLOW_RECORD, 1005, PAYLOAD, (uint32_t)length - PAYLOAD, 1, 1, PAYLOAD - 8};
     latchplume_outcome got = latchplume_read_extended_url(data, length, record).outcome;
     return (latchplume_answer){got.code, got.at, got.steps + PAYLOAD / 4, got.code == LATCHPLUME_ACCEPTED ? NEEDED : 0};
 }
