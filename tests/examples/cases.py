@@ -196,6 +196,10 @@ class Datagram:
     def descriptors(self):
         return antt_list([' '.join(['desc', *map(str, row)]) for row in self.store])
 
+    def words(self):
+        """The store's words, one behind another."""
+        return antt_list([str(n) for row in self.store for n in row])
+
 
 class Counters(Datagram):
     """A header and a counter sample: a record that is opened, and one of the same format of another enterprise, which stays raw."""

@@ -138,13 +138,11 @@ def datagram_text():
                for b in header_bodies()]
     for d in whole_datagrams():
         name = 'decoded-%d' % d.head.data[7]
-        store = antt_list([str(n) for row in d.store for n in row])
         pairs = [('answer', answer_of(d)), *((f, v.field()) for (_, f), v in zip(d.head.fields, d.head.values) if f != 'version')]
-        structs.append(Struct(name, 'Decoded', 'decode', 'of-input (decoded %s %s)' % (name, store),
+        structs.append(Struct(name, 'Decoded', 'decode', 'of-input (decoded %s %s)' % (name, d.words()),
                               'a datagram whose agent has an address of type %d' % d.head.data[7], literal(pairs)))
     for d, name, about in ((whole_datagrams()[0], 'ran-1', 'the first of these as a run'), (ended_run(), 'ran-2', 'a run that ends in the middle of a header')):
-        store = antt_list([str(n) for row in d.store for n in row])
-        structs.append(Struct(name, 'Answer', 'decode', 'of-input (ran %s %s)' % (name, store), about, answer_of(d)))
+        structs.append(Struct(name, 'Answer', 'decode', 'of-input (ran %s %s)' % (name, d.words()), about, answer_of(d)))
     return crate_text('datagram', "a datagram's header and the answers to the calls", structs, ['headers', 'inputs'],
                       'use Rattle.reading.specs.Answer.{header-of, no-header}\n' + shown_uses('datagram', ['header-fields', 'decoded', 'ran']),
                       unfolded=' header-of no-header')
