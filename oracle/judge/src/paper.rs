@@ -196,14 +196,15 @@ impl<'a> Reader<'a> {
         Reader { cursor, store: Vec::new(), header: Vec::new(), place: Place::Header, opened: Vec::new(), at_limit: 0 }
     }
 
-    fn describe(&mut self, descriptor: Descriptor) -> u32 {
-        self.store.push(descriptor);
+    /// Writes a descriptor, and answers its index. What it stands for has its first byte at `first`, and its range is a start and a length.
+    fn describe(&mut self, (kind, format): (u32, u32), (start, length): (usize, usize), parent: u32, depth: u32, first: usize) -> u32 {
+        self.store.push([kind, format, start as u32, length as u32, parent, depth, first as u32]);
         self.store.len() as u32 - 1
     }
 
     fn datagram(&mut self) -> Read<()> {
         let start = self.cursor.at;
-        let own = self.describe([DATAGRAM, 0, start as u32, 0, NOBODY, 0, start as u32]);
+        let own = self.describe((DATAGRAM, 0), (start, 0), NOBODY, 0, start);
         self.place = Place::Header;
         self.header.clear();
         for shape in LAYOUTS[0].shapes {
@@ -222,7 +223,7 @@ impl<'a> Reader<'a> {
         let first = self.cursor.at;
         let format = self.cursor.word()?;
         let (start, length) = self.cursor.opaque()?;
-        let own = self.describe([SAMPLE, format, start as u32, length as u32, parent, 0, first as u32]);
+        let own = self.describe((SAMPLE, format), (start, length), parent, 0, first);
         self.inside(start, length, |reader| reader.sample_fields(format, own))
     }
 
@@ -260,7 +261,7 @@ impl<'a> Reader<'a> {
         }
         let format = self.cursor.word()?;
         let (start, length) = self.cursor.opaque()?;
-        let own = self.describe([kind, format, start as u32, length as u32, parent, depth, at as u32]);
+        let own = self.describe((kind, format), (start, length), parent, depth, at);
         if only_the_crate_opens(kind, format) {
             self.opened.push(Opened { kind, format, at });
         }
@@ -287,7 +288,7 @@ impl<'a> Reader<'a> {
         let first = self.cursor.at;
         let count = self.cursor.word()?;
         let start = self.cursor.at;
-        let own = self.describe([PDU, 0, start as u32, 0, parent, depth, first as u32]);
+        let own = self.describe((PDU, 0), (start, 0), parent, depth, first);
         for _ in 0..count {
             self.record(FLOW, own, depth + 1)?;
         }
