@@ -88,15 +88,13 @@ fn descriptor(s: &[u8], d: &Words) {
 fn words_at(store: &[u32], at: usize) -> Words
     requires { ⌜ at + descriptor-words ≤ length (now store) ⌝ }
 {
-    [
-        store[at],
-        store[at + 1],
-        store[at + 2],
-        store[at + 3],
-        store[at + 4],
-        store[at + 5],
-        store[at + 6],
-    ]
+    let mut d = [0; DESCRIPTOR_WORDS];
+    let mut i = 0;
+    while i < DESCRIPTOR_WORDS {
+        d[i] = store[at + i];
+        i += 1;
+    }
+    d
 }
 
 // The first n descriptors.

@@ -60,12 +60,11 @@ fn descriptor(store: &[u32], at: usize)
     requires { ⌜ at + descriptor-words ≤ length (now store) ⌝ }
 {
     word(b"; ", store[at]);
-    word(b",", store[at + 1]);
-    word(b",", store[at + 2]);
-    word(b",", store[at + 3]);
-    word(b",", store[at + 4]);
-    word(b",", store[at + 5]);
-    word(b",", store[at + 6]);
+    let mut i = 1;
+    while i < DESCRIPTOR_WORDS {
+        word(b",", store[at + i]);
+        i += 1;
+    }
 }
 
 // The first n descriptors.
