@@ -13,7 +13,7 @@ pub fn count(tally: &mut Tally, reading: &Reading, run: &Reading) {
         tally.reach(Key::Refusal(reading.code, reading.place));
     }
     tally.accepted += u64::from(reading.code == 0);
-    for [kind, format, _, _, _, depth, _] in &reading.store {
+    for [kind, format, _, _, _, depth, ..] in &reading.store {
         match (*kind, layout_of(*kind, *format)) {
             (SAMPLE, Some(_)) => tally.reach(Key::Sample(*format)),
             (FLOW, Some(_)) => tally.reach(Key::Flow(*format)),
