@@ -85,10 +85,11 @@ def with_rooms(group, call, session, rooms):
 
 
 def edges(call):
+    few, near = 4 * DESCRIPTOR_WORDS + 3, DESCRIPTOR_WORDS + 1
     for session in (S2, S9, S11, S12, WITH_ADDRESS, WITH_COUNTERS, WITH_OPENED):
         edge = DESCRIPTOR_WORDS * len(session.rows)
-        rooms = {*range(31), *range(max(0, edge - 8), edge + 9)}
-        yield from with_rooms("stores of 0 to 30 words, and of 8 less to 8 more than what is needed", call, session, sorted(rooms))
+        rooms = {*range(few), *range(max(0, edge - near), edge + near + 1)}
+        yield from with_rooms(f"stores of 0 to {few - 1} words, and of {near} less to {near} more than what is needed", call, session, sorted(rooms))
 
 
 def malformed(call):
