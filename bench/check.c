@@ -9,7 +9,7 @@
 
 #include "walk.h"
 
-enum { SPARE = 9, MOST_WORDS = 1 << 22 };
+enum { SPARE = LATCHPLUME_DESCRIPTOR_WORDS + 2, MOST_WORDS = 1 << 22 };
 
 typedef latchplume_decoded decoder(const uint8_t *data, size_t length, uint32_t *store, size_t words);
 
