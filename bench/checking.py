@@ -10,14 +10,14 @@ import making
 import paths
 import workloads
 from long import LONG
-from shapes import CUT_KINDS, EVERY_KIND, P2, P3, P4, P5, P6, P7, P9, P11, P12, P12_DEEPER, P13, opaque, with_record, words
+from shapes import CUT_KINDS, EVERY_KIND, P2, P3, P4, P5, P6, P7, P9, P11, P12, P12_DEEPER, P13, deepest, frame, opaque, with_record, words
 
 SESSIONS = [b"", P2, P3, P4, P5, P6, P7, P9, P11, P12, P12_DEEPER, P13, P9 + P2 + P11, P9 + P3]
 # how the walk is compiled for a comparison with the library, and up to which length an input, its cuts and its changed bytes are tried
 HELD = (("", making.RELEASE, "as it is measured", 2000), ("-checked", making.CHECKED, "every access checked", 400))
 # what the oracle tries, at each run and where all is asked for
-SOME = (["200000", "1"], ["--counters"], ["--strings"])
-ALL = (["2000000", "2"], ["--counters"], ["--strings"], ["--every-byte"], ["--long"])
+SOME = (["200000", "1"], ["--counters"], ["--ethernet"], ["--strings"])
+ALL = (["2000000", "2"], ["--counters"], ["--ethernet"], ["--strings"], ["--every-byte"], ["--long"])
 
 
 def grown(count):
@@ -28,6 +28,13 @@ def grown(count):
         for _ in range(1 + number % 3):
             wire, _ = encoder.any_datagram(rng, wire)
         yield bytes(wire.data)
+
+
+def ethernet():
+    """Sampled Ethernet records of 0 to 40 bytes, in a sample and at the deepest depth."""
+    for length in range(41):
+        yield with_record(2, bytes(range(length)))
+        yield deepest([frame(2, bytes(range(length)))])
 
 
 def strings():
@@ -58,6 +65,7 @@ def inputs():
     yield from CUT_KINDS
     yield from (shape(300) for _, _, _, shape in LONG)
     yield from grown(100)
+    yield from ethernet()
     yield from strings()
     yield from captures()
     for case in workloads.all_cases():

@@ -83,7 +83,7 @@ static uint64_t fields(const struct input *in) {
         if (layout == NULL || layout->format != one[LATCHPLUME_FORMAT])
             continue;
         union reading reading;
-        layout->read(&reading, in->data, in->length, one);
+        layout->read[MEMO](&reading, in->data, in->length, one);
         sum += reading.outcome.steps;
     }
     return sum;

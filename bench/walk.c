@@ -177,7 +177,7 @@ INLINE bool sampled_header(cursor *c) {
 }
 
 INLINE bool sampled_ethernet(cursor *c) {
-    return row(c, 20, 4) || (words(c, 1) && block(c, 6) && block(c, 6) && words(c, 1));
+    return row(c, 24, 4) || (words(c, 1) && block(c, 8) && block(c, 8) && words(c, 1));
 }
 
 INLINE bool sampled_ipv6(cursor *c) {

@@ -1,4 +1,4 @@
-/* What AFL++ runs: each input goes to the comparison of ../oracle/judge, and a difference ends the process.
+/* What AFL++ runs: each input goes to the comparison of ../oracle/judge, and a difference in either mode ends the process.
    An argument is the number of a deliberate fault, to see that it is found. */
 #include <signal.h>
 #include <stdint.h>

@@ -29,7 +29,7 @@ def library():
     try:
         kit = build.Kit()
         with build.one_at_a_time():
-            build.compile_module(kit, build.proved(kit), build.MACHINE, made, [COUNTED])
+            build.compile_modules(kit, build.proved(kit), build.MACHINE, made, [COUNTED])
     except build.Failed as trouble:
         raise building.Failed(str(trouble)) from None
     return made

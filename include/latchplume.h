@@ -146,6 +146,15 @@ latchplume_decoded latchplume_decode(const uint8_t *data, size_t length, uint32_
  */
 latchplume_answer latchplume_decode_run(const uint8_t *data, size_t length, uint32_t *store, size_t words);
 
+/*
+ * Both in the base mode, which is for comparing with collectors that read a sampled Ethernet record (flow record, format 2) in 20 bytes,
+ * six for each MAC address. The calls without `_base` read it as the sFlow version 5 memo has it: six bytes and two of pad for each
+ * address, 24 in all. Nothing else differs. Fields of that format are read by latchplume_read_sampled_ethernet_base then; every other
+ * format has one call for both modes.
+ */
+latchplume_decoded latchplume_decode_base(const uint8_t *data, size_t length, uint32_t *store, size_t words);
+latchplume_answer latchplume_decode_run_base(const uint8_t *data, size_t length, uint32_t *store, size_t words);
+
 /* Numbers of two parts in one word. Each is a type of its own, so that one cannot be taken for another. */
 
 typedef struct latchplume_data_format {
@@ -342,6 +351,8 @@ typedef struct latchplume_sampled_ethernet {
 } latchplume_sampled_ethernet;
 
 latchplume_sampled_ethernet latchplume_read_sampled_ethernet(
+    const uint8_t *data, size_t length, const uint32_t descriptor[LATCHPLUME_DESCRIPTOR_WORDS]);
+latchplume_sampled_ethernet latchplume_read_sampled_ethernet_base(
     const uint8_t *data, size_t length, const uint32_t descriptor[LATCHPLUME_DESCRIPTOR_WORDS]);
 
 /* Format 3: an IPv4 packet. An address is its four bytes as one number, the first of them uppermost. */

@@ -13,9 +13,8 @@ def declaration(layout):
     text = 'typedef struct latchplume_%s {\n    latchplume_outcome outcome;\n' % layout.name
     for field, member in zip(layout.fields, members):
         text += '%-*s /* %s%s */\n' % (broad, member, SPANS.get(field.shape.tool, ''), field.meaning)
-    call = 'latchplume_%s latchplume_read_%s(' % (layout.name, layout.name)
-    apart = '\n    ' if len(call + DESCRIPTOR) > 132 else ''
-    return text + '} latchplume_%s;\n\n%s%s%s);\n' % (layout.name, call, apart, DESCRIPTOR)
+    calls = ['latchplume_%s latchplume_read_%s(' % (layout.name, layout.name + end) for end in ('', '_base')[:1 + layout.modes]]
+    return text + '} latchplume_%s;\n\n' % layout.name + ''.join(call + '\n    ' * (len(call + DESCRIPTOR) > 132) + DESCRIPTOR + ');\n' for call in calls)
 
 
 def header(layouts):
@@ -28,7 +27,7 @@ def header(layouts):
 
 def table(layouts):
     """The command's table: the calls, the fields of each layout, and the layouts."""
-    text = ''.join('READ(%s)\n' % one.name for one in layouts)
+    text = ''.join('READ(%s)\n' % one.name + 'READ_BASE(%s)\n' % one.name * one.modes for one in layouts)
     for one in layouts:
         text += '\nstatic const struct field %s[] = {\n' % one.name.upper()
         for field in one.fields:
@@ -37,5 +36,5 @@ def table(layouts):
             text += '    %s(%s, %s, %s%s),\n' % (said, one.name, field.name, shape, more)
         text += '};\n'
     kinds = ['LATCHPLUME_' + kind.upper().replace(' ', '_') for kind in KINDS]
-    rows = ''.join('    LAYOUT(%s, %d, %s, %s),\n' % (kinds[one.kind], one.format, one.name, one.name.upper()) for one in layouts)
+    rows = ''.join('    LAYOUT%s(%s, %d, %s, %s),\n' % ('_BASE' * one.modes, kinds[one.kind], one.format, one.name, one.name.upper()) for one in layouts)
     return text + '\nconst struct layout LAYOUTS[] = {\n%s};\n' % rows

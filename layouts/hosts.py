@@ -4,11 +4,11 @@ from readers import MADE, antt, proof_text
 CALL = '''
 #[no_mangle]
 pub extern "C" fn latchplume_read_%(name)s(%(parameters)s) -> %(type)s
-    ensures { λ r. ⌜ answer-of (r .outcome) (%(shown)s r) ≡ read-at %(kind)d %(format)d (now (s .entry)) (now (d .entry)) ⌝ }
+    ensures { λ r. ⌜ answer-of (r .outcome) (%(shown)s r) ≡ read-at memo %(kind)d %(format)d (now (s .entry)) (now (d .entry)) ⌝ }
 {
     let asked = ask(s, d, %(kind)d, %(format)d);
     let passed = asked.passed;
-    %(type)s::parse(passed, &s[..asked.end])
+    %(type)s::parse(passed, &s[..asked.end]%(mode)s)
 }
 '''
 BACK = '''
@@ -16,7 +16,7 @@ pub %(dashed)s-lossless : Lossless (λ (r : %(type)s). answer-of (r .outcome) (%
 %(dashed)s-lossless = got-back (λ (x : Fields). record { outcome = outcome-of x; %(back)s }) (λ r. refl)
 '''
 SETTLED = '''  pub read-%(dashed)s-settled : Settles (call.%(file)s.latchplume_read_%(name)s.Reads.Learnt κs (s, (w, tt))) \
-(λ r. answer-of (r .outcome) (%(shown)s r)) (read-at %(kind)d %(format)d (now s) (now w))
+(λ r. answer-of (r .outcome) (%(shown)s r)) (read-at memo %(kind)d %(format)d (now s) (now w))
   read-%(dashed)s-settled = settled %(dashed)s-lossless
 '''
 
@@ -25,7 +25,7 @@ def said(layout):
     """What the texts say of a layout. The datagram's reader is written by hand, and has names of its own."""
     line = 'pub extern "C" fn latchplume_read_%s(s: &[u8], d: &Words) -> %s' % (layout.name, layout.type)
     parameters = 's: &[u8], d: &Words' if len(line) <= 100 else '\n    s: &[u8],\n    d: &Words,\n'
-    return dict(vars(layout), parameters=parameters, shown='header-fields' if layout.by_hand else layout.dashed)
+    return dict(vars(layout), parameters=parameters, shown='header-fields' if layout.by_hand else layout.dashed, mode=', Mode::Memo' * layout.modes)
 
 
 def uses(layouts):
@@ -36,7 +36,8 @@ def uses(layouts):
 
 def source(file, about, layouts):
     names = ['fields::ask::ask', 'fields::descriptor::Words', *('%s::%s::%s' % (one.crate, 'header' if one.by_hand else file, one.type) for one in layouts)]
-    lines = ['// ' + MADE, '// ' + about, 'ghost use mathlib.Core.Path.{_≡_};', 'ghost use Rattle.xdr.specs.Shown.{answer-of};',
+    names += ['layout::field::Mode'] * any(one.modes for one in layouts)
+    lines = ['// ' + MADE, '// ' + about, 'ghost use mathlib.Core.Path.{_≡_};', 'ghost use Rattle.reading.specs.Layout.{memo};', 'ghost use Rattle.xdr.specs.Shown.{answer-of};',
              *('ghost %s;' % line for line in uses(layouts)), 'ghost use Rattle.fields.specs.Shown.{read-at};', *('use %s;' % name for name in sorted(names))]
     return '\n'.join(lines) + '\n' + ''.join(CALL % said(one) for one in layouts)
 

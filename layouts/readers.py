@@ -5,11 +5,11 @@ MADE = 'Made by layouts/make from layouts/table.'
 LONGEST, BROADEST = 39, 60  # lines of a function; columns that `rt fmt` leaves to what is called with, and to a chain of calls
 # Where what a reader may name comes from; and what its contracts may cite.
 USES = {'Address': 'xdr', 'Counted': 'layout::field', 'DataSource': 'numbers', 'DataSourceExpanded': 'crate::kinds', 'Interface': 'numbers',
-        'InterfaceExpanded': 'crate::kinds', 'Network': 'crate::parts', 'Route': 'crate::parts', 'Outcome': 'xdr', 'Passed': 'xdr', 'Span': 'xdr'}
+        'InterfaceExpanded': 'crate::kinds', 'Network': 'crate::parts', 'Route': 'crate::parts', 'Mode': 'layout::field', 'Outcome': 'xdr', 'Passed': 'xdr', 'Span': 'xdr'}
 CITES = {'mathlib.Core.Path': '_≡_', 'mathlib.Core.List': '[] _∷_ _++_', 'Prim.Native.Nat': '_+_ _≤_', 'lib.ListN': 'length',
-         'Rattle.reading.specs.Script': 'long opaque six sixteen', 'Rattle.reading.specs.Layout': 'addr bytes list mac plain protocol segments str words',
+         'Rattle.reading.specs.Script': 'long opaque sixteen', 'Rattle.reading.specs.Layout': 'addr bytes list mac memo plain protocol segments str words',
          'Rattle.reading.specs.Values': 'zeros', 'Rattle.reading.specs.Answer': 'layout-of', 'Rattle.reading.proofs.Widths': 'numbers',
-         'Rattle.xdr.specs.Shown': 'Answers', 'Rattle.layout.specs.Chain': 'Within', 'Rattle.counters.specs.Sizes': 'sizes-of'}
+         'Rattle.xdr.specs.Shown': 'Answers', 'Rattle.layout.specs.Chain': 'Within mode-of', 'Rattle.counters.specs.Sizes': 'sizes-of'}
 
 
 class Step:
@@ -89,8 +89,9 @@ def parse(layout, stop):
     """The lines of `parse`, with these for a refusal."""
     read, got = fixed_lines(layout) if layout.fixed else step_lines(layout)
     got = got if 'Passed::Got' in got[0] else ['            Passed::Got(d) => {', *got, '            }']
-    answers = 'Answers (layout-of %d %d) (now (s .entry)) p (r .outcome) (%s r)' % (layout.kind, layout.format, layout.dashed)
-    return ['    pub fn parse(p: Passed, s: &[u8]) -> %s' % layout.type, '        requires { ⌜ Within (now s) p ⌝ }',
+    mode, given = ('(mode-of mode)', ', mode: Mode') if layout.modes else ('memo', '')
+    answers = 'Answers (layout-of %s %d %d) (now (s .entry)) p (r .outcome) (%s r)' % (mode, layout.kind, layout.format, layout.dashed)
+    return ['    pub fn parse(p: Passed, s: &[u8]%s) -> %s' % (given, layout.type), '        requires { ⌜ Within (now s) p ⌝ }',
             '        ensures { λ r. ⌜ %s ⌝ }' % answers, '    {', *read, '        match passed {', *stop, *got, '        }', '    }']
 
 
@@ -205,7 +206,7 @@ def cut_arm(layout):
 def raw(layouts):
     """The law that a number of no row stays raw."""
     numbers = [layout.format for layout in layouts]
-    shown = ('(s : List ℕ) (c : Cursor) ', 'got nothing (place c) ≡ follow (opened (flows (give nothing)) f) s (place c)', 'opened flows follow', 's c ')
+    shown = ('(mode : Mode) (s : List ℕ) (c : Cursor) ', 'got nothing (place c) ≡ follow (opened (flows mode (give nothing)) f) s (place c)', 'opened flows follow', 'mode s c ')
     given, says, unfolds, names = ('', 'sizes-of f ≡ []', 'sizes-of counters', '') if layouts[0].fixed else shown
     not_one, laws = ' '.join('z%d' % n for n in numbers), ', '.join('ne-eqb %d f (λ e. z%d (sym e))' % (n, n) for n in numbers)
     lines = ['pub raw : %s(f : ℕ) → %s' % (given, ' → '.join('(f ≡ %d → ⊥)' % n for n in numbers)), '    → ' + says, 'unfolding ' + unfolds]

@@ -56,7 +56,7 @@ class Layout:
         apart = self.by and self.by[1:] not in [[field.name for field in run] for run in self.runs(self.by)]
         refuse(apart, '%s: the fields behind `by` do not stand one behind another', self.name)
         refuse(not self.fixed and len([*self.runs(self.by)]) > 4, '%s is read in more than 4 steps: let a reader of parts.rt read some fields, by a line `by`', self.name)
-        self.size = sum(field.shape.size for field in self.fields)
+        self.size, self.modes = sum(field.shape.size for field in self.fields), any(field.shape == SHAPES['ethernet'] for field in self.fields)
         self.file, self.by_hand = self.said['file'].split('  ')[0], self.said['file'].endswith('  by hand')
         self.document, _, self.parted = self.said['from'].partition(',')
         refuse(self.document not in DOCUMENTS, '%s is from `%s`; the documents are %s', self.name, self.document, ', '.join(DOCUMENTS))

@@ -32,10 +32,10 @@ static enum status trouble(const char *name, enum status status, const char *for
 /* What list answers where its descriptors reach to the index, and else run: their indices are the same as far as both have them. */
 static latchplume_answer decode(const struct cutting *c, const uint8_t *data, size_t length)
 {
-    latchplume_answer one = latchplume_decode(data, length, c->store, c->words).answer;
+    latchplume_answer one = mode_decode(c->which->mode, data, length, c->store, c->words).answer;
     if (one.code != LATCHPLUME_ACCEPTED || c->which->index < one.needed || c->which->packet)
         return one;
-    latchplume_answer all = latchplume_decode_run(data, length, c->store, c->words);
+    latchplume_answer all = mode_decode_run(c->which->mode, data, length, c->store, c->words);
     return all.code == LATCHPLUME_ACCEPTED ? all : one;
 }
 

@@ -3,13 +3,15 @@
 #define CUT_H
 
 #include "input.h"
+#include "modes.h"
 #include "status.h"
 
-/* Which: the descriptor with this index, and of a capture those of one packet, which came to this port. */
+/* Which: the descriptor with this index, and of a capture those of one packet, which came to this port; and the mode to decode by. */
 struct cut {
     size_t index;
     unsigned long packet; /* from 1; 0 where none is named */
     unsigned port;
+    enum mode mode;
 };
 
 /*

@@ -86,14 +86,14 @@ static bool in_pdus(struct search *s, size_t at)
     return false;
 }
 
-/* The sample's fields end in the count of its records. */
+/* The sample's fields, which both modes read alike, end in the count of its records. */
 static bool in_sample(struct search *s, const uint32_t *sample)
 {
     union reading reading;
     const struct layout *layout = layout_of(LATCHPLUME_SAMPLE, sample[LATCHPLUME_FORMAT]);
     if (!layout)
         return false;
-    layout->read(&reading, s->data, s->length, sample);
+    layout->read[MEMO](&reading, s->data, s->length, sample);
     return reading.outcome.code == LATCHPLUME_ACCEPTED && in_records(s, reading.outcome.at, word(s, reading.outcome.at - 4));
 }
 

@@ -18,17 +18,19 @@
 
 /* ./latchplume prints it from here before anything is built, with LATCHPLUME_MAX_INPUT in its one place. */
 static const char HELP[] =
-    "usage: latchplume list [--port N] FILE          one datagram: the answer, and a line for each descriptor\n"
-    "       latchplume run  [--port N] FILE          datagrams end to end, listed likewise\n"
-    "       latchplume show [--port N] [--full] [--pads] FILE\n"
-    "                                                datagrams end to end, each as a tree of its fields\n"
-    "       latchplume cut  [--port N --packet N] FILE INDEX\n"
-    "                                                one record, from its format word to its pad, as a relay would forward it\n"
+    "usage: latchplume list [--base] [--port N] FILE  one datagram: the answer, and a line for each descriptor\n"
+    "       latchplume run  [--base] [--port N] FILE  datagrams end to end, listed likewise\n"
+    "       latchplume show [--base] [--port N] [--full] [--pads] FILE\n"
+    "                                                 datagrams end to end, each as a tree of its fields\n"
+    "       latchplume cut  [--base] [--port N --packet N] FILE INDEX\n"
+    "                                                 one record, from its format word to its pad, as a relay would forward it\n"
     "\n"
     "FILE holds sFlow version 5 datagrams, bare; or it is a pcap or pcapng file, whose UDP packets to the sFlow port are read one\n"
     "by one. - is standard input. Bare datagrams are read up to %s bytes.\n"
     "INDEX counts descriptors from 0, as list and run print them. Samples, PDUs and datagrams are cut out as well.\n"
     "\n"
+    "  --base     sampled Ethernet records (flow record 2) in 20 bytes, their addresses without pads, as some collectors read them;\n"
+    "             else in 24, as the sFlow version 5 memo has them\n"
     "  --port N   the port of the packets in a pcap file, instead of 6343\n"
     "  --packet N the packet of a pcap file that INDEX is in, as list counts them\n"
     "  --full     all of a field that has more than 256 bytes or words\n"
@@ -50,6 +52,7 @@ struct work {
     struct cut cut;
     size_t most;
     bool pads;
+    enum mode mode;
     uint32_t *store;
     size_t words;
     unsigned long number; /* of the datagram that is shown */
@@ -93,7 +96,7 @@ static void say_fault(const struct work *w, const uint8_t *data, size_t length, 
 
 static void list(struct work *w, const uint8_t *data, size_t length)
 {
-    latchplume_decoded got = latchplume_decode(data, length, w->store, w->words);
+    latchplume_decoded got = mode_decode(w->mode, data, length, w->store, w->words);
     print_listing(w, &got.answer);
     if (got.answer.code == LATCHPLUME_NOT_UTF8)
         say_fault(w, data, length, 0, got.answer.at);
@@ -103,7 +106,7 @@ static void list(struct work *w, const uint8_t *data, size_t length)
 static size_t refused_from(struct work *w, const uint8_t *data, size_t length)
 {
     for (size_t from = 0;;) {
-        latchplume_answer got = latchplume_decode(data + from, length - from, w->store, w->words).answer;
+        latchplume_answer got = mode_decode(w->mode, data + from, length - from, w->store, w->words).answer;
         if (got.code != LATCHPLUME_ACCEPTED)
             return from;
         from += got.at;
@@ -112,7 +115,7 @@ static size_t refused_from(struct work *w, const uint8_t *data, size_t length)
 
 static void list_run(struct work *w, const uint8_t *data, size_t length)
 {
-    latchplume_answer got = latchplume_decode_run(data, length, w->store, w->words);
+    latchplume_answer got = mode_decode_run(w->mode, data, length, w->store, w->words);
     print_listing(w, &got);
     if (got.code == LATCHPLUME_NOT_UTF8)
         say_fault(w, data, length, refused_from(w, data, length), got.at);
@@ -121,7 +124,7 @@ static void list_run(struct work *w, const uint8_t *data, size_t length)
 /* One datagram; its length, or 0 where it is refused. */
 static size_t show_next(struct work *w, const struct shown *s, size_t from)
 {
-    latchplume_decoded got = latchplume_decode(s->data + from, s->length - from, w->store, w->words);
+    latchplume_decoded got = mode_decode(w->mode, s->data + from, s->length - from, w->store, w->words);
     if (got.answer.code != LATCHPLUME_ACCEPTED) {
         show_refusal(s, ++w->number, from, &got.answer);
         worse(w, REFUSED);
@@ -138,7 +141,7 @@ static size_t show_next(struct work *w, const struct shown *s, size_t from)
 
 static void show_all(struct work *w, const uint8_t *data, size_t length)
 {
-    struct shown s = {data, length, w->most, w->pads};
+    struct shown s = {data, length, w->mode, w->most, w->pads};
     size_t from = 0, got = 1;
     while (from < length && got > 0) {
         got = show_next(w, &s, from);
@@ -149,7 +152,7 @@ static void show_all(struct work *w, const uint8_t *data, size_t length)
 /* The one datagram of a packet; bytes behind it are no fault. */
 static void show_packet(struct work *w, const uint8_t *data, size_t length)
 {
-    struct shown s = {data, length, w->most, w->pads};
+    struct shown s = {data, length, w->mode, w->most, w->pads};
     show_next(w, &s, 0);
 }
 
@@ -256,7 +259,7 @@ static int go(struct work *w)
     if (w->cuts && !read_number(w->index, 0, ULONG_MAX, &index))
         return usage("an index is a number from 0 on, and not ", w->index);
     if (w->cuts)
-        w->cut = (struct cut){index, w->cut.packet, w->port};
+        w->cut = (struct cut){index, w->cut.packet, w->port, w->mode};
     return work(w);
 }
 
@@ -269,6 +272,8 @@ static int with(struct work *w, char **words)
         bool option = options && words[0][0] == '-' && words[0][1] != '\0';
         if (option && strcmp(*words, "--") == 0) {
             options = false;
+        } else if (option && strcmp(*words, "--base") == 0) {
+            w->mode = BASE;
         } else if (option && strcmp(*words, "--full") == 0) {
             w->most = SIZE_MAX;
         } else if (option && w->each == show_all && strcmp(*words, "--pads") == 0) {

@@ -2,18 +2,23 @@
 
 #include "names.h"
 
-/* The call that reads a layout, into the place that the union has for it. */
-#define READ(what)                                                                                                    \
-    static void read_##what(union reading *into, const uint8_t *data, size_t length, const uint32_t *descriptor)      \
+/* The call that reads a layout, into the place that the union has for it; and the base mode's, where that is another. */
+#define READ(what) READ_BY(what, read_##what, latchplume_read_##what)
+#define READ_BASE(what) READ_BY(what, read_##what##_base, latchplume_read_##what##_base)
+#define READ_BY(what, name, call)                                                                                     \
+    static void name(union reading *into, const uint8_t *data, size_t length, const uint32_t *descriptor)             \
     {                                                                                                                 \
-        into->what = latchplume_read_##what(data, length, descriptor);                                                \
+        into->what = call(data, length, descriptor);                                                                  \
     }
 
 #define FIELD(what, name, shape) {#name, shape, offsetof(latchplume_##what, name), NULL, NULL}
 #define SAID(what, name, shape, say) {#name, shape, offsetof(latchplume_##what, name), say, NULL}
 #define SAID_LONG(what, name, shape, say) {#name, shape, offsetof(latchplume_##what, name), NULL, say}
 
-#define LAYOUT(kind, format, what, fields) {kind, format, #what, read_##what, fields, sizeof(fields) / sizeof *(fields)}
+#define LAYOUT(kind, format, what, fields) LAYOUT_BY(kind, format, what, read_##what, fields)
+#define LAYOUT_BASE(kind, format, what, fields) LAYOUT_BY(kind, format, what, read_##what##_base, fields)
+#define LAYOUT_BY(kind, format, what, base, fields) \
+    {kind, format, #what, {[MEMO] = read_##what, [BASE] = base}, fields, sizeof(fields) / sizeof *(fields)}
 
 /* made by layouts/make from layouts/table: from here */
 READ(header)
@@ -24,6 +29,7 @@ READ(counters_sample_expanded)
 READ(discarded_packet)
 READ(sampled_header)
 READ(sampled_ethernet)
+READ_BASE(sampled_ethernet)
 READ(sampled_ipv4)
 READ(sampled_ipv6)
 READ(extended_switch)
@@ -344,7 +350,7 @@ const struct layout LAYOUTS[] = {
     LAYOUT(LATCHPLUME_SAMPLE, 4, counters_sample_expanded, COUNTERS_SAMPLE_EXPANDED),
     LAYOUT(LATCHPLUME_SAMPLE, 5, discarded_packet, DISCARDED_PACKET),
     LAYOUT(LATCHPLUME_FLOW_RECORD, 1, sampled_header, SAMPLED_HEADER),
-    LAYOUT(LATCHPLUME_FLOW_RECORD, 2, sampled_ethernet, SAMPLED_ETHERNET),
+    LAYOUT_BASE(LATCHPLUME_FLOW_RECORD, 2, sampled_ethernet, SAMPLED_ETHERNET),
     LAYOUT(LATCHPLUME_FLOW_RECORD, 3, sampled_ipv4, SAMPLED_IPV4),
     LAYOUT(LATCHPLUME_FLOW_RECORD, 4, sampled_ipv6, SAMPLED_IPV6),
     LAYOUT(LATCHPLUME_FLOW_RECORD, 1001, extended_switch, EXTENDED_SWITCH),

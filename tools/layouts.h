@@ -1,8 +1,8 @@
-/* Every layout that the library reads: its name, the call that reads it, and its fields by their names. */
+/* Every layout that the library reads: its name, the calls that read it, and its fields by their names. */
 #ifndef LAYOUTS_H
 #define LAYOUTS_H
 
-#include "latchplume.h"
+#include "modes.h"
 
 enum shape {
     NUMBER,             /* uint32_t */
@@ -72,7 +72,7 @@ struct layout {
     uint32_t kind;
     uint32_t format;
     const char *name;
-    void (*read)(union reading *into, const uint8_t *data, size_t length, const uint32_t *descriptor);
+    void (*read[MODES])(union reading *into, const uint8_t *data, size_t length, const uint32_t *descriptor);
     const struct field *fields;
     size_t count;
 };

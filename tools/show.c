@@ -40,7 +40,7 @@ static void title(const uint32_t *one, unsigned long number, const struct layout
 static bool fields(const struct shown *s, const uint32_t *one, const struct layout *layout)
 {
     union reading reading;
-    layout->read(&reading, s->data, s->length, one);
+    layout->read[s->mode](&reading, s->data, s->length, one);
     if (reading.outcome.code != LATCHPLUME_ACCEPTED) {
         text_indent(level_of(one) + 1);
         printf("refused: %s, at %zu\n", name_of_code(reading.outcome.code), reading.outcome.at);

@@ -4,10 +4,11 @@
 
 #include "layouts.h"
 
-/* What is shown: the input, how many bytes or words of one field at the most, and whether pads that are not zero are told. */
+/* What is shown: the input, by which mode, how many bytes or words of one field at the most, and whether pads that are not zero are told. */
 struct shown {
     const uint8_t *data;
     size_t length;
+    enum mode mode;
     size_t most;
     bool pads;
 };

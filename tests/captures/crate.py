@@ -153,7 +153,7 @@ def field_of(field, shape, value):
     if shape == "address":
         octets = ipaddress.ip_address(value.parts[0].name).packed if value.parts else b""
         return {0: 0, 4: 1, 16: 2}[len(octets)], octets
-    if shape in ("six", "six_of_eight"):
+    if shape in ("ethernet", "six_of_eight"):
         return bytes(value.parts[0])
     if shape == "sixteen":
         return ipaddress.IPv6Address(value.name).packed

@@ -11,7 +11,7 @@ import sys
 ROOT = os.path.dirname(os.path.dirname(os.path.dirname(os.path.abspath(__file__))))
 sys.path.insert(0, os.path.join(ROOT, "tests", "host"))
 import building
-from encoder import LAYOUTS, pads
+from encoder import BASE, LAYOUTS, MEMO, pads
 from library import DESCRIPTOR_WORDS
 from library_checks import spelt
 
@@ -22,6 +22,10 @@ SHAPES = {name: [(field, shape or "plain") for field, _, shape in (one.partition
 
 # the words of a descriptor, as the listing names them
 WORDS = ("kind", "format", "start", "length", "parent", "depth", "first")
+# the calls that decode one datagram, a run, and that read fields, by their mode
+DECODE = {MEMO: "decode", BASE: "decode_base"}
+RUN = {MEMO: "run", BASE: "run_base"}
+READ = {MEMO: "read", BASE: "read_base"}
 ROW = re.compile(r" (\d+(?:,\d+){%d})" % (DESCRIPTOR_WORDS - 1))
 
 Answer = collections.namedtuple("Answer", "code at steps needed rows")
@@ -70,9 +74,9 @@ def listing_of(answer):
     return "".join(line + "\n" for line in lines)
 
 
-def text_of(program, data):
+def text_of(program, data, *words):
     """What a listing program prints."""
-    ran = subprocess.run([building.at("tests", "program"), program], input=data, capture_output=True)
+    ran = subprocess.run([building.at("tests", "program"), program, *words], input=data, capture_output=True)
     return ran.stdout.decode() if ran.returncode == 0 else f"status {ran.returncode}: {ran.stderr.decode()}"
 
 
@@ -95,7 +99,7 @@ def span(shape, text, data):
 
 def value_of(shape, text, data):
     """A field as `calls` prints it."""
-    if shape in ("six", "six_of_eight", "sixteen"):
+    if shape in ("ethernet", "six_of_eight", "sixteen"):
         return bytes.fromhex(text)
     if shape == "address":
         kind, octets = text.split("/")
@@ -105,12 +109,12 @@ def value_of(shape, text, data):
     return span(shape, text, data) if "+" in text else int(text)
 
 
-def ours(datagrams):
+def ours(datagrams, mode=MEMO):
     """The nodes of each datagram, from its bytes and its descriptors: the library reads the fields."""
     lines = []
     for data, rows in datagrams:
         lines.append("data " + data.hex())
-        lines += [f"read {BY_FORMAT[row[:2]]} {spelt(row)}" for row in rows if row[:2] in BY_FORMAT]
+        lines += [f"{READ[mode]} {BY_FORMAT[row[:2]]} {spelt(row)}" for row in rows if row[:2] in BY_FORMAT]
     printed = iter(called(lines))
     return [[node_of(data, row, printed) for row in rows] for data, rows in datagrams]
 
@@ -128,14 +132,14 @@ def node_of(data, row, printed):
 
 
 def size_of(shape, value):
-    """How many bytes a field takes."""
+    """How many bytes a field takes, as the memo has it."""
     if shape == "address":
         return 4 + len(value[1])
     if shape in ("opaque", "string", "list"):
         return 4 + len(value) + pads(len(value))
     if shape == "segments":
         return 4 + len(value[1])
-    return {"two_words": 8, "long": 8, "six": 6, "six_of_eight": 8, "sixteen": 16}.get(shape, 4)
+    return {"two_words": 8, "long": 8, "ethernet": 8, "six_of_eight": 8, "sixteen": 16}.get(shape, 4)
 
 
 def placed(name, fields, start):

@@ -5,6 +5,7 @@ import os
 import figures
 import library
 import model
+from encoder import BASE
 
 
 class Capture:
@@ -51,8 +52,11 @@ def check(checks, captures):
     paths = {one.listing_path() for one in captures}
     stored = set(glob.glob(os.path.join(figures.ROOT, "tests", "captures", "*", "*.listing")))
     checks.same("listings without a datagram, and datagrams without a listing", set(), paths ^ stored)
-    answers = figures.decoded([one.data.hex() for one in captures])
-    for one, answer in zip(captures, answers):
+    answers, in_base = (figures.decoded([one.data.hex() for one in captures], call) for call in figures.DECODE.values())
+    for one, answer, base in zip(captures, answers, in_base):
         checks.same(f"{one.name}: the listing program", one.stored, figures.text_of("listing", one.data))
         checks.same(f"{one.name}: the library", one.stored, figures.listing_of(answer))
         checks.same(f"{one.name}: the rules, as the model reads them", one.stored, figures.listing_of(model.read(one.data)))
+        expected = model.read(one.data, mode=BASE)
+        checks.same(f"{one.name}: the library in the base mode", expected, base)
+        checks.same(f"{one.name}: the listing program in the base mode", figures.listing_of(expected), figures.text_of("listing", one.data, "--base"))

@@ -1,6 +1,6 @@
 """The reading of one datagram by docs/RULES.md, in Python; and, one at a time, the faults that other decoders
 have had."""
-from encoder import MAX_DEPTH, MAX_INPUT, MAX_OPAQUE, NOBODY, descriptor, pads
+from encoder import BASE, MAX_DEPTH, MAX_INPUT, MAX_OPAQUE, MEMO, NOBODY, descriptor, pads
 from figures import BY_FORMAT, SHAPES, Answer
 
 # what a decoder with the fault does
@@ -21,8 +21,8 @@ class Refused(Exception):
 
 
 class Reader:
-    def __init__(self, data, fault=None):
-        self.data, self.fault, self.at, self.steps, self.rows = data, fault, 0, 0, []
+    def __init__(self, data, fault, mode):
+        self.data, self.fault, self.mode, self.at, self.steps, self.rows = data, fault, mode, 0, 0, []
 
     def end(self, end):
         """The end of what encloses an item inside a record."""
@@ -65,7 +65,7 @@ class Reader:
             self.word(end)
 
     def field(self, name, shape, end):
-        sizes = {"long": 8, "six": 6, "six_of_eight": 8, "sixteen": 16}
+        sizes = {"long": 8, "ethernet": 6 if self.mode == BASE else 8, "six_of_eight": 8, "sixteen": 16}
         if shape in sizes:
             self.item(sizes[shape], end)
         elif shape == "address":
@@ -153,10 +153,10 @@ def well_formed(text, start):
         raise Refused(7, start + fault.start) from None
 
 
-def read(data, fault=None):
+def read(data, fault=None, mode=MEMO):
     if len(data) > MAX_INPUT:
         return Answer(1, 0, 0, 0, [])
-    reader = Reader(data, fault)
+    reader = Reader(data, fault, mode)
     try:
         reader.datagram()
     except Refused as why:

@@ -7,12 +7,13 @@ import random
 
 import figures
 import tshark
-from encoder import Body, COUNTER_SAMPLES, COUNTERS, MAX_OPAQUE, Wire, pads
+from encoder import BASE, Body, COUNTER_SAMPLES, COUNTERS, MAX_OPAQUE, Wire, pads
 
 # beside the fields: whether the datagram is accepted, and whether a refusal's fault is what tshark reads at its place
 ACCEPTED, FAULT = (0, "accepted"), (0, "the fault")
 SAMPLE_LENGTH, RECORD_LENGTH = "sflow_5.sample_length", "sflow_5.flow_data_length"
 RECORDS = ("sflow.flow_sample.flow_record", "sflow.counters_sample.counters_records")
+ETHERNET_RECORDS = 7  # all of them in SFlowEthernetFramePacket
 
 
 def passes_end(one, reading):
@@ -48,13 +49,6 @@ def with_pad(one, reading, key, ours, theirs):
     return key[1] == "sflow_245.header" and ours is not None and theirs == one.data[key[0]:key[0] + len(ours) + pads(len(ours))]
 
 
-def wide_addresses(one, reading, key, ours, theirs):
-    """The second address is two bytes further on, and the type behind it four."""
-    starts = [row[2] for row in one.rows if row[:2] == (2, 2)]
-    behind = {"sflow_245.ethernet.destination_mac_address": (10, 12), "sflow_245.ethernet.packet_type": (16, 20)}.get(key[1], ())
-    return any(key[0] - start in behind and (ours is None or theirs is None) for start in starts)
-
-
 def held_to_packet(one, reading, key, ours, theirs):
     return key == ACCEPTED and theirs and same_fault(one, reading)
 
@@ -69,7 +63,6 @@ def count_cut(one, reading, key, ours, theirs):
 DECLARED = {
     "does not step over the payload of a counter record that it does not know": (8, 730, not_stepped_over),
     "shows the sampled header with its pad": (15, 57, with_pad),
-    "reads each address of flow record 2 as six bytes and two of pad": (1, 28, wide_addresses),
     "holds a record to the packet and not to its sample": (2, 2, held_to_packet),
     "counts a sample's records in eight bits": (1, 1, count_cut),
 }
@@ -77,12 +70,40 @@ DECLARED = {
 
 def check(checks, captures):
     found = {reason: collections.Counter() for reason in DECLARED}
-    for one, reading in zip(captures, tshark.read([one.data for one in captures])):
+    readings = tshark.read([one.data for one in captures])
+    for one, reading in zip(captures, readings):
         compare(checks, one, reading, found)
     for reason, (in_captures, over_fields, _) in DECLARED.items():
         times = len(found[reason]), sum(found[reason].values())
         checks.same(f"tshark {reason}: in how many captures, over how many fields", (in_captures, over_fields), times)
+    check_ethernet(checks, captures, readings)
     check_counters(checks)
+
+
+def check_ethernet(checks, captures, readings):
+    """Addresses and type of each sampled Ethernet record: the plain call's as tshark has them, and the base call's as its 20 bytes give them."""
+    in_base = figures.ours([(one.data, one.rows) for one in captures], BASE)
+    found, before = 0, checks.wrong
+    for one, reading, others in zip(captures, readings, in_base):
+        for row, node, other in zip(one.rows, one.nodes, others):
+            if node.name == "sampled_ethernet":
+                found += 1
+                as_tshark_has_it(checks, f"{one.name}: the sampled Ethernet record at {row[2]}", reading, row, node)
+                as_base_has_it(checks, f"{one.name}: the sampled Ethernet record at {row[2]}", one.data[row[2]:row[2] + 20], other)
+    checks.same("sampled Ethernet records in the captures", ETHERNET_RECORDS, found)
+    print(f"{found} sampled Ethernet records, both addresses and the type of each beside tshark's: {checks.wrong - before} wrong")
+
+
+def as_tshark_has_it(checks, what, reading, row, node):
+    names = {"src_mac": "source_mac_address", "dst_mac": "destination_mac_address", "eth_type": "packet_type"}
+    inside = {name: value for (at, name), value in reading.fields.items() if row[2] <= at < row[2] + row[3]}
+    for field, name in names.items():
+        checks.same(f"{what}: {field} by tshark", inside.get(f"sflow_245.ethernet.{name}"), node.fields[field])
+
+
+def as_base_has_it(checks, what, data, node):
+    expected = {"length": int.from_bytes(data[:4], "big"), "src_mac": data[4:10], "dst_mac": data[10:16], "eth_type": int.from_bytes(data[16:], "big")}
+    checks.same(f"{what}, in the base mode", expected, node.fields)
 
 
 def check_counters(checks):

@@ -1,7 +1,7 @@
 /* Answers cases from standard input, each a call of its own: what it answers, what the store then has, and how deep the stack was written.
    Of libc only read and write, so that a compiler without libc's headers for the processor can build it.
 
-   A case is three words, then bytes: 0 for decode or 1 for decode_run, how many words the store has, how many bytes follow.
+   A case is three words, then bytes: the call's place in CALLS of cases.py, how many words the store has, how many bytes follow.
    An answer is a struct shown, then the store and SPARE words behind it. */
 #include "latchplume.h"
 
@@ -33,6 +33,9 @@ static uint8_t data[BYTES];
 static uint32_t store[WORDS + SPARE];
 static latchplume_decoded decoded;
 
+/* The calls, in the order of cases.py: which is a run, and which is the base mode's. */
+enum { DECODE, RUN, DECODE_BASE, RUN_BASE };
+
 static int all(long (*move)(int, void *, size_t), int file, void *at, size_t count) {
     uint8_t *p = at;
     while (count > 0) {
@@ -53,15 +56,18 @@ static long put(int file, void *from, size_t count) {
 static uint64_t call(uint32_t which, size_t bytes, size_t words) {
     static const latchplume_decoded none;
     volatile uint64_t *top, *p;
+    decoded = none;
     STACK_POINTER(top);
     for (p = top - DEEP; p < top - RED_ZONE; p++)
         *p = PAINT;
-    if (which == 0) {
+    if (which == DECODE)
         decoded = latchplume_decode(data, bytes, store, words);
-    } else {
-        decoded = none;
+    else if (which == DECODE_BASE)
+        decoded = latchplume_decode_base(data, bytes, store, words);
+    else if (which == RUN)
         decoded.answer = latchplume_decode_run(data, bytes, store, words);
-    }
+    else
+        decoded.answer = latchplume_decode_run_base(data, bytes, store, words);
     for (p = top - DEEP; p < top && *p == PAINT; p++)
         ;
     return (uint64_t)(top - p) * 8;
@@ -88,7 +94,7 @@ int main(void) {
     uint32_t head[3];
     while (all(read, 0, head, sizeof head)) {
         size_t words = head[1], bytes = head[2];
-        if (head[0] > 1 || words > WORDS || bytes > BYTES || !all(read, 0, data, bytes))
+        if (head[0] > RUN_BASE || words > WORDS || bytes > BYTES || !all(read, 0, data, bytes))
             return 2;
         for (size_t i = 0; i < words + SPARE; i++)
             store[i] = FILL;

@@ -11,7 +11,7 @@ HEAD = struct.Struct("<5QI16s4I4x")  # as answers.c writes it
 
 def ask(command, asked):
     """For each case what is shown, and the bytes of stack that were written."""
-    sent = [struct.pack("<3I", ("decode", "run").index(c.call), c.room, len(c.data)) + c.data for c in asked]
+    sent = [struct.pack("<3I", cases.CALLS.index(c.call), c.room, len(c.data)) + c.data for c in asked]
     said = build.run(command, input=b"".join(sent))
     at, out = 0, []
     for c in asked:

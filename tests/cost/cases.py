@@ -5,13 +5,17 @@ from collections import namedtuple
 from library import DESCRIPTOR_WORDS, MAX_DEPTH, NOBODY
 from long import LONG
 from shapes import (
-    COUNTER_KINDS, COUNTERS, CUT_KINDS, EVERY_KIND, IPV6, KINDS, P2, P3, P4, P6, P7, P9, P11, P12, P12_DEEPER, P13, counter_sample, frame, header,
-    with_counter, with_string, words)
+    COUNTER_KINDS, COUNTERS, CUT_KINDS, EVERY_KIND, IPV6, KINDS, P2, P3, P4, P6, P7, P9, P11, P12, P12_DEEPER, P13, counter_sample, deepest, frame,
+    header, with_counter, with_string, words)
 
 # as answers.c has them: what the store holds before a call, and how many words behind it are shown too
 FILL = 0xA5A5A5A5
 SPARE = 2 * DESCRIPTOR_WORDS
 NO_HEADER = (0, bytes(16), 0, 0, 0, 0)
+
+# the calls, by their place in answers.c
+CALLS = ("decode", "run", "decode_base", "run_base")
+RUNS = ("run", "run_base")
 
 # what is expected is a Shown; None stands for anything
 Case = namedtuple("Case", "group call data room expected")
@@ -66,7 +70,7 @@ MALFORMED += [(with_string(data), 7, 76 + good, 18) for data, good in ILL_FORMED
 
 def accepted(session, call, room):
     written = [word for row in session.rows for word in row]
-    header = session.header if call == "decode" else NO_HEADER
+    header = NO_HEADER if call in RUNS else session.header
     return Shown(0, session.at, session.steps, len(session.rows), header, tuple(written + [FILL] * (room + SPARE - len(written))))
 
 
@@ -97,9 +101,9 @@ def malformed(call):
     for room in (0, DESCRIPTOR_WORDS - 1, DESCRIPTOR_WORDS, 600):
         for data, code, at, steps in MALFORMED:
             # code 2 ends a run, which then has no datagram
-            ends = call == "run" and code == 2
+            ends = call in RUNS and code == 2
             yield Case(group, call, data, room, unwritten(0, 0, steps, 0, room) if ends else unwritten(code, at, steps, 0, room))
-        if call == "run":
+        if call in RUNS:
             yield Case(group, call, P9 + P3, room, unwritten(3, 44, 11, 0, room))
 
 
@@ -110,15 +114,24 @@ def sum_of_run():
         index = len(rows)
         rows += [(k, f, at + start, n, p if p == NOBODY else p + index, d, first + start) for k, f, at, n, p, d, first in session.rows]
     three = Session(P9 + P2 + P11, NO_HEADER, 148, 37, rows)
-    return with_rooms("a run whose sum does not fit, and one that just does", "run", three, range(DESCRIPTOR_WORDS * (len(rows) + 2)))
+    for call in RUNS:
+        yield from with_rooms("a run whose sum does not fit, and one that just does", call, three, range(DESCRIPTOR_WORDS * (len(rows) + 2)))
+
+
+# flow record 2 without its last word: to the base mode it is whole
+TWENTY = deepest([frame(2, KINDS[2][:20])])
 
 
 def deep(call):
     group = f"every kind of record, flow records at depth {MAX_DEPTH}, whole, and cut short before each of its words"
-    needed = 2 + 2 * (MAX_DEPTH - 1) + len(KINDS) + 2 + 1 + len(COUNTER_KINDS)
+    above = 2 + 2 * (MAX_DEPTH - 1)
+    needed = above + len(KINDS) + 2 + 1 + len(COUNTER_KINDS)
     yield Case(group, call, EVERY_KIND, 600, Shown(0, len(EVERY_KIND), None, needed, None, None))
     for data in CUT_KINDS:
-        yield Case(group, call, data, 600, unwritten(2 if call == "decode" else 0, None, None, 0, 600))
+        if data == TWENTY and call.endswith("_base"):
+            yield Case(group, call, data, 600, Shown(0, len(data), None, above + 1, None, None))
+        else:
+            yield Case(group, call, data, 600, unwritten(0 if call in RUNS else 2, None, None, 0, 600))
 
 
 def long():
@@ -130,7 +143,7 @@ def long():
 
 def all_cases():
     yield from with_rooms("P11 with a store for three descriptors: code 9, needed 4, 20 steps", "decode", S11, [3 * DESCRIPTOR_WORDS])
-    for call in ("decode", "run"):
+    for call in CALLS:
         yield from edges(call)
         yield from malformed(call)
         yield from deep(call)

@@ -1,5 +1,5 @@
 /* Counts what the library asks of the allocator: heap COUNT, with an input on standard input. Linked so that each name below leads here.
-   Prints the count after one malloc of this program's own, and after COUNT decodes with room, without, and as a run. */
+   Prints the count after one malloc of this program's own, and after COUNT decodes with room, without, and as a run, in both modes. */
 #include <sys/mman.h>
 #include <unistd.h>
 
@@ -39,6 +39,9 @@ int main(int argc, char **argv) {
         codes |= call(0, data, length, store).code;
         codes |= latchplume_decode(data, length, store, 0).answer.code;
         codes |= call(1, data, length, store).code;
+        codes |= latchplume_decode_base(data, length, store, WORDS).answer.code;
+        codes |= latchplume_decode_base(data, length, store, 0).answer.code;
+        codes |= latchplume_decode_run_base(data, length, store, WORDS).code;
     }
     printf("%lu %u\n", calls, codes);
     return 0;

@@ -23,4 +23,4 @@ def figures():
     own, calls, codes = map(int, said.split())
     if own != 1 or codes != 9:
         build.fail("the program heap counts nothing, or its calls do not answer 0 and 9")
-    yield calls == 0, f"heap: {calls} allocations in {DECODES} decodes with room, {DECODES} without and {DECODES} runs, at most 0"
+    yield calls == 0, f"heap: {calls} allocations in {DECODES} decodes with room, {DECODES} without and {DECODES} runs, in each mode, at most 0"

@@ -75,7 +75,7 @@ LIST = words(2, 7, 8)
 RAW_KIND = 1017
 KINDS = {
     1: words(1, 64, 4) + opaque(b"frame"),
-    2: words(60) + bytes(12) + words(2048),
+    2: words(60) + bytes(16) + words(2048),
     3: words(1, 2, 3, 4, 5, 6, 7, 8),
     4: words(60, 6) + bytes(32) + words(1, 2, 3, 4),
     1001: words(1, 2, 3, 4),

@@ -7,7 +7,7 @@ import re
 
 import figures
 import tshark_checks
-from given import Given
+from given import IN_BASE, Given
 from recipes import Recipe, Unreadable
 
 PATH = os.path.join(figures.ROOT, "docs", "DIFFERENCES.md")
@@ -21,6 +21,9 @@ class Row:
 
     def asks_tshark(self):
         return any(who == "others" for who, _ in self.claims)
+
+    def asks_base(self):
+        return any(who == "here" and claim.startswith(IN_BASE) for who, claim in self.claims)
 
     def alone(self):
         """Whether the crate's process may end, and has to be asked for this row only."""

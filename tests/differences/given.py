@@ -5,9 +5,11 @@ import resource
 import crate
 import figures
 import tshark
+from encoder import BASE, MEMO
 from recipes import Unreadable
 
 LITTLE = 16 << 20  # 16 MiB
+IN_BASE = "base: "  # before a claim about the base mode
 
 
 class Given:
@@ -15,41 +17,48 @@ class Given:
 
     def __init__(self, inputs):
         every = list(dict.fromkeys(one for _, one in inputs))
-        self.ones = dict(zip(every, figures.decoded(every)))
-        self.runs = dict(zip(every, figures.decoded(every, "run")))
+        asked = {MEMO: every, BASE: list({one for row, one in inputs if row.asks_base()})}
+        self.ones = {mode: dict(zip(asked[mode], figures.decoded(asked[mode], call))) for mode, call in figures.DECODE.items()}
+        self.runs = {mode: dict(zip(asked[mode], figures.decoded(asked[mode], call))) for mode, call in figures.RUN.items()}
         alone = {one for row, one in inputs if row.alone()}
         together = [one for one in every if one not in alone]
         self.told = dict(zip(together, crate.told(together)))
-        asked = list({one for row, one in inputs if row.asks_tshark()})
-        self.readings = dict(zip(asked, tshark.read([bytes.fromhex(one) for one in asked])))
+        of_tshark = list({one for row, one in inputs if row.asks_tshark()})
+        self.readings = dict(zip(of_tshark, tshark.read([bytes.fromhex(one) for one in of_tshark])))
 
     def like(self, claim, who, one):
         """What is given, put as the claim puts it."""
         return {"crate": self.by_crate, "here": self.here, "others": self.by_tshark}[who](claim, one)
 
     def here(self, claim, one):
-        answer, run = self.ones[one], self.runs[one]
+        if claim.startswith(IN_BASE):
+            return IN_BASE + self.by_library(claim[len(IN_BASE):], one, BASE)
+        return self.by_library(claim, one, MEMO)
+
+    def by_library(self, claim, one, mode):
+        answer, run = self.ones[mode][one], self.runs[mode][one]
         if claim.startswith("run: "):
             return run_like(claim, run.code, sum(row[0] == 0 for row in run.rows), f" at {run.at}")
         if claim.endswith(" in 16 MiB"):
-            limited, = figures.decoded([one], preexec_fn=little_memory)
+            limited, = figures.decoded([one], figures.DECODE[mode], preexec_fn=little_memory)
             return f"{limited.code} at {limited.at} in 16 MiB"
         if claim.endswith(" needed"):
-            return self.with_room(claim, one)
+            return self.with_room(claim, one, mode)
         if claim.endswith(" steps"):
             return f"{answer.steps} steps"
         if re.fullmatch(r"\d+( at \d+)?", claim):
             return f"{answer.code} at {answer.at}" if " at " in claim else str(answer.code)
-        return self.value(claim, one, answer)
+        return self.value(claim, one, mode)
 
-    def with_room(self, claim, one):
+    def with_room(self, claim, one, mode):
         words = int(re.search(r" in (\d+) words", claim).group(1))
-        answer = figures.answer_of(figures.called([f"data {one}", f"decode {words}"])[0])
+        answer = figures.answer_of(figures.called([f"data {one}", f"{figures.DECODE[mode]} {words}"])[0])
         return f"{answer.code} in {words} words, {answer.needed} needed"
 
-    def value(self, claim, one, answer):
+    def value(self, claim, one, mode):
         """A field of the last descriptor that has it; or that the last descriptor is not opened."""
-        nodes, = figures.ours([(bytes.fromhex(one), answer.rows)]) if answer.rows else [[]]
+        rows = self.ones[mode][one].rows
+        nodes, = figures.ours([(bytes.fromhex(one), rows)], mode) if rows else [[]]
         if claim == "raw":
             return "raw" if nodes and not nodes[-1].name else "not raw"
         name = claim.partition("=")[0]

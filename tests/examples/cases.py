@@ -19,12 +19,25 @@ def named(body):
     return '%s, format %d' % (body.name, body.format) if body.kind else body.name
 
 
+def in_mode(body, call):
+    """The call; of its own mode alone, where the other reads something else."""
+    return 'in-mode %s (%s)' % (body.mode, call) if body.name == 'sampled_ethernet' else call
+
+
 def accepted(body, note=''):
     names = ', '.join(field for _, field in body.fields)
     end = START + len(body.data)
-    call = 'accepts %d %d %s\n%d %d %s' % (body.kind, body.format, words_of(body.data), end, len(body.items), antt_list(body.texts()))
+    call = in_mode(body, 'accepts %d %d %s\n%d %d %s' % (body.kind, body.format, words_of(body.data), end, len(body.items), antt_list(body.texts())))
     said = ['%s: %s' % (field, value.antt()) for (_, field), value in zip(body.fields, body.values)]
     return Example('%s%s: %s' % (named(body), note, names), call, [body.data.hex(' ', -4), 'code 0, at %d, steps %d' % (end, len(body.items)), *said])
+
+
+def begun(body, data, extent, note):
+    """Accepted, of a range of so many of these bytes: they begin with the body's, and the rest is left over."""
+    assert data.startswith(body.data)
+    end = START + len(body.data)
+    call = in_mode(body, 'begins %d %d %s %d\n%d %d %s' % (body.kind, body.format, words_of(data), extent, end, len(body.items), antt_list(body.texts())))
+    return Example(named(body) + note, call, ['%s, of which %d bytes are the range' % (data.hex(' ', -4), extent), 'code 0, at %d, steps %d' % (end, len(body.items))])
 
 
 def refused(body, why, code, at, steps, extent=None, data=None, asked=None):
@@ -32,7 +45,7 @@ def refused(body, why, code, at, steps, extent=None, data=None, asked=None):
     extent = len(data) if extent is None else extent
     of = '%d %d' % (body.kind, body.format)
     head = 'mistakes %s %d %d' % (of, *asked) if asked else 'refuses ' + of
-    call = '%s %s %d\n%d %d %d %s' % (head, words_of(data), extent, code, at, steps, antt_list(body.zeros()))
+    call = in_mode(body, '%s %s %d\n%d %d %d %s' % (head, words_of(data), extent, code, at, steps, antt_list(body.zeros())))
     return Example('%s: %s' % (named(body), why), call, ['%s, of which %d bytes are the range' % (data.hex(' ', -4), extent), 'code %d, at %d, steps %d' % (code, at, steps)])
 
 
@@ -83,16 +96,24 @@ def headers():
     return [accepted(body, ' with an address of type %d' % body.data[7]) for body in header_bodies()]
 
 
+def two_modes():
+    memo, base = Body('sampled_ethernet'), Body('sampled_ethernet', mode='base')
+    for extent in (20, 23, 24):
+        yield cut(memo, 'eth_type', extent - 20, 'of %d bytes' % extent) if extent < 24 else accepted(memo, ' of 24 bytes')
+        yield begun(base, memo.data, extent, ' of %d bytes, in the base mode' % extent)
+
+
 def refusals():
-    def body(name, addresses='46'):
-        return Body(name, addresses)
+    def body(name, addresses='46', mode='memo'):
+        return Body(name, addresses, mode)
 
     yield cut(body('extended_switch'), 'dst_vlan', 3, 'a word is cut')
     yield cut(body('flow_sample'), 'drops', 3, 'a word of a sample is cut')
     yield cut(body('header', '4'), 'uptime', 3, 'a word of the header is cut')
     yield cut(body('sampled_header'), 'protocol', 3, 'the protocol is cut')
     yield cut(body('extended_80211_rx'), 'speed', 7, 'a u64 is cut')
-    yield cut(body('sampled_ethernet'), 'dst_mac', 5, 'a block of six bytes is cut')
+    yield cut(body('sampled_ethernet'), 'dst_mac', 7, 'an address is cut, behind the six that are shown')
+    yield cut(body('sampled_ethernet', mode='base'), 'dst_mac', 5, 'an address of six bytes is cut, in the base mode')
     yield cut(body('extended_80211_tx'), 'bssid', 7, 'a block of eight bytes is cut, behind the six that are shown')
     yield cut(body('sampled_ipv6'), 'dst_ip', 15, 'a block of sixteen bytes is cut')
     yield cut(body('extended_router'), 'next_hop', 3, "an address's type is cut")

@@ -14,7 +14,7 @@ use Rattle.reading.specs.Utf8.{among, utf8, longest-to}
 use Rattle.reading.specs.Numbers.{known, header-protocols}
 use Rattle.reading.specs.Script.{Span, Value, number, octets, address, part}
 use Rattle.reading.specs.Cursor.{read-item, follow}
-use Rattle.reading.specs.Layout.{address-of, run-of, field, fields, last-number, opened, flows, flow, counters, samples, datagram-to}
+use Rattle.reading.specs.Layout.{Mode, memo, base, address-of, run-of, field, fields, last-number, opened, flows, flow, counters, samples, datagram-to}
 use Rattle.reading.specs.Values.{valued, reading}
 use Rattle.reading.specs.Answer.{size, rows, Header, header-of, no-header, Answer, stored, one, tried, datagrams, run, layout-of, Fields, answered, read, Listed, list-word, segment-at, payload-span, whole-span}
 
@@ -60,9 +60,13 @@ pub data Result : Type 0 where
   of-word : Listed → Result
 
 pub record Example : Type 0 where
-  pub call : List ℕ → Result
+  pub call : Mode → List ℕ → Result
   pub input : List ℕ
   pub result : Result
+
+-- an example of one mode alone; the others hold in each
+in-mode : Mode → Example → Example
+in-mode m e = record { call = λ _. e .call m; input = e .input; result = e .result }
 
 -- a range that begins at byte %(start)d: a word stands before it and one behind it, and what is read of them is wrong
 around : List ℕ → List ℕ
@@ -73,16 +77,25 @@ around ws = w (0xe1e2e3e4 ∷ ws ++ 0xe5e6e7e8 ∷ [])
 accepts : (kind format : ℕ) → (words : List ℕ) → (at steps : ℕ) → List Value → Example
 unfolding w around
 accepts k f ws a n vs = record {
-  call = λ s. of-fields (read k f s k f %(start)d (length (w ws)));
+  call = λ mode s. of-fields (read mode k f s k f %(start)d (length (w ws)));
   input = around ws;
   result = of-fields (record { code = 0; at = a; steps = n; values = vs });
 }
 
--- the same of a range of so many bytes: refused, with the code
+-- the same of a range of so many bytes, of which some are left over
+begins : (kind format : ℕ) → (words : List ℕ) → (extent at steps : ℕ) → List Value → Example
+unfolding around
+begins k f ws l a n vs = record {
+  call = λ mode s. of-fields (read mode k f s k f %(start)d l);
+  input = around ws;
+  result = of-fields (record { code = 0; at = a; steps = n; values = vs });
+}
+
+-- the same, refused, with the code
 refuses : (kind format : ℕ) → (words : List ℕ) → (extent code at steps : ℕ) → List Value → Example
 unfolding around
 refuses k f ws l c a n vs = record {
-  call = λ s. of-fields (read k f s k f %(start)d l);
+  call = λ mode s. of-fields (read mode k f s k f %(start)d l);
   input = around ws;
   result = of-fields (record { code = c; at = a; steps = n; values = vs });
 }
@@ -91,7 +104,7 @@ refuses k f ws l c a n vs = record {
 mistakes : (asked-kind asked-format kind format : ℕ) → (words : List ℕ) → (extent code at steps : ℕ) → List Value → Example
 unfolding around
 mistakes ak af k f ws l c a n vs = record {
-  call = λ s. of-fields (read ak af s k f %(start)d l);
+  call = λ mode s. of-fields (read mode ak af s k f %(start)d l);
   input = around ws;
   result = of-fields (record { code = c; at = a; steps = n; values = vs });
 }
@@ -100,7 +113,7 @@ mistakes ak af k f ws l c a n vs = record {
 segment : (words : List ℕ) → (code at steps : ℕ) → List Value → Example
 unfolding around
 segment ws c a n vs = record {
-  call = λ s. of-fields (segment-at s %(start)d);
+  call = λ _ s. of-fields (segment-at s %(start)d);
   input = around ws;
   result = of-fields (record { code = c; at = a; steps = n; values = vs });
 }
@@ -109,7 +122,7 @@ segment ws c a n vs = record {
 pays : (words : List ℕ) → (start extent : ℕ) → (at count : ℕ) → Example
 unfolding around
 pays ws l n a c = record {
-  call = λ s. of-span (payload-span s l n);
+  call = λ _ s. of-span (payload-span s l n);
   input = around ws;
   result = of-span (record { start = a; count = c });
 }
@@ -117,7 +130,7 @@ pays ws l n a c = record {
 stands : (words : List ℕ) → (start extent first : ℕ) → (at count : ℕ) → Example
 unfolding around
 stands ws l n o a c = record {
-  call = λ s. of-span (whole-span s l n o);
+  call = λ _ s. of-span (whole-span s l n o);
   input = around ws;
   result = of-span (record { start = a; count = c });
 }
@@ -126,7 +139,7 @@ stands ws l n o a c = record {
 lists : (words : List ℕ) → (start count index : ℕ) → Bool → (value : ℕ) → Example
 unfolding around
 lists ws l n i there v = record {
-  call = λ s. of-word (list-word s l n i);
+  call = λ _ s. of-word (list-word s l n i);
   input = around ws;
   result = of-word (record { present = there; value = v });
 }
@@ -135,7 +148,7 @@ lists ws l n i there v = record {
 decodes : (words : List ℕ) → (at steps needed : ℕ) → Header → List (List ℕ) → Example
 unfolding w joined
 decodes ws a n k head ds = record {
-  call = λ s. of-input (one s (replicate (length (joined ds)) 165));
+  call = λ mode s. of-input (one mode s (replicate (length (joined ds)) 165));
   input = w ws;
   result = of-input (record { code = 0; at = a; steps = n; needed = k; head = head; store = joined ds });
 }
@@ -144,7 +157,7 @@ decodes ws a n k head ds = record {
 runs : (words : List ℕ) → (at steps needed : ℕ) → List (List ℕ) → Example
 unfolding w joined blank
 runs ws a n k ds = record {
-  call = λ s. of-input (run s (replicate (length (joined ds)) 165));
+  call = λ mode s. of-input (run mode s (replicate (length (joined ds)) 165));
   input = w ws;
   result = of-input (record { code = 0; at = a; steps = n; needed = k; head = blank; store = joined ds });
 }
@@ -153,7 +166,7 @@ runs ws a n k ds = record {
 stops : (words : List ℕ) → (room code at steps needed : ℕ) → Example
 unfolding w blank
 stops ws m c a n k = record {
-  call = λ s. of-input (one s (replicate m 165));
+  call = λ mode s. of-input (one mode s (replicate m 165));
   input = w ws;
   result = of-input (record { code = c; at = a; steps = n; needed = k; head = blank; store = replicate m 165 });
 }
@@ -162,7 +175,7 @@ stops ws m c a n k = record {
 
 '''
 
-HELPERS = 'w nowhere v4 v6 lies desc accepts refuses mistakes segment pays stands lists decodes runs stops'.split()
+HELPERS = 'in-mode w nowhere v4 v6 lies desc accepts begins refuses mistakes segment pays stands lists decodes runs stops'.split()
 TABLES = (
     ('flow-records', 'the flow records', cases.flow_records),
     ('counter-records', 'the counter records', cases.counter_records),
@@ -171,6 +184,7 @@ TABLES = (
     ('segments', 'a segment of an AS path', cases.segments),
     ('spans', "a descriptor's payload, and all of its record, as start and count", cases.spans),
     ('list-words', 'a word of a list: whether it is there, and its value', cases.list_words),
+    ('two-modes', 'a sampled Ethernet record of 20, 23 and 24 bytes, in each mode', cases.two_modes),
     ('refusals', 'refusals of field reading, whose values are all zero: what is left out is an input above the limit, code 1', cases.refusals),
     ('inputs', 'one datagram, with its header by the names of its fields; and runs', cases.whole),
     ('undecoded', 'refusals that only a datagram meets', cases.undecoded),
@@ -198,7 +212,7 @@ pub examples : List Example
 unfolding %s
 examples = %s
 
-pub the-examples-hold : map (λ (e : Example). e .call (e .input)) examples ≡ map (λ (e : Example). e .result) examples
+pub the-examples-hold : (mode : Mode) → map (λ (e : Example). e .call mode (e .input)) examples ≡ map (λ (e : Example). e .result) examples
 unfolding examples be4 be8 among utf8 longest-to known header-protocols follow read-item address-of run-of field fields last-number opened flows flow counters samples datagram-to size rows header-of no-header valued reading layout-of answered read segment-at stored one tried datagrams run list-word payload-span whole-span
-the-examples-hold = refl
+the-examples-hold mode = refl
 ''' % (names, ' ++ '.join(name for name, _, _ in TABLES))

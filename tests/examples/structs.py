@@ -100,8 +100,8 @@ the-descriptor-holds = refl
 
 ASKED = '''
 -- a descriptor's words, as they are handed in: kind, format, start and length are what is asked
-pub the-descriptor-holds : (s : List ℕ) → read-at 1 2 s (11 ∷ 12 ∷ 13 ∷ 14 ∷ 15 ∷ 16 ∷ 17 ∷ []) ≡ read 1 2 s 11 12 13 14
-the-descriptor-holds s = refl
+pub the-descriptor-holds : (mode : Mode) (s : List ℕ) → read-at mode 1 2 s (11 ∷ 12 ∷ 13 ∷ 14 ∷ 15 ∷ 16 ∷ 17 ∷ []) ≡ read mode 1 2 s 11 12 13 14
+the-descriptor-holds mode s = refl
 '''
 
 
@@ -151,7 +151,8 @@ def datagram_text():
 def fields_text():
     structs = [Struct('listed-%d' % i, 'Listed', 'lists', 'of-word (listed listed-%d)' % i, 'the word with index %d of a list of two' % i,
                       literal([('present', str(there).lower()), ('value', number(value))])) for i, there, value in LISTED]
-    uses = '''use Rattle.reading.specs.Answer.{read}
+    uses = '''use Rattle.reading.specs.Layout.{Mode}
+use Rattle.reading.specs.Answer.{read}
 use Rattle.fields.specs.Shown.{read-at, listed}
 '''
     text = crate_text('fields', 'a word of a list, and what is asked of a descriptor,', structs, ['list-words'], uses, ASKED)

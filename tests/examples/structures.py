@@ -96,8 +96,8 @@ class Part(tuple):
 class Body:
     """The bytes of a structure, its items as (name, first byte, behind the last), and the values of its fields."""
 
-    def __init__(self, name, addresses='46', **given):
-        self.name, self.addresses, self.given = name, list(addresses), given
+    def __init__(self, name, addresses='46', mode='memo', **given):
+        self.name, self.addresses, self.mode, self.given = name, list(addresses), mode, given
         self.kind, self.format, self.module, self.fields = MEMO[name]
         self.data, self.items, self.values = bytearray(), [], []
         self.next, self.letter = 0x11, ord('a')
@@ -139,8 +139,8 @@ class Body:
         self.item(field, raw)
         return Octets(raw[:shown])
 
-    def six(self, field):
-        return self.block(field, 6, 6)
+    def ethernet_mac(self, field):
+        return self.block(field, 6 if self.mode == 'base' else 8, 6)
 
     def mac(self, field):
         return self.block(field, 8, 6)

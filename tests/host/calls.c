@@ -5,6 +5,8 @@
  *     decode WORDS           latchplume_decode with a store of so many words
  *     run WORDS              latchplume_decode_run
  *     read NAME D..          latchplume_read_NAME with this descriptor, word for word
+ *     decode_base, run_base, read_base
+ *                            the same in the base mode; of read_base, latchplume_read_NAME_base where the header has it
  *     payload D..            latchplume_payload
  *     whole D..              latchplume_whole
  *     word START COUNT N     latchplume_list_word
@@ -126,11 +128,14 @@ static void print_answer(const char *name, const latchplume_answer *a)
     printf("%s code=%" PRIu32 " at=%zu steps=%zu needed=%zu", name, a->code, a->at, a->steps, a->needed);
 }
 
-static void do_decode(char **words)
+typedef latchplume_decoded decoder(const uint8_t *data, size_t length, uint32_t *store, size_t words);
+typedef latchplume_answer runner(const uint8_t *data, size_t length, uint32_t *store, size_t words);
+
+static void decode_by(decoder *call, const char *name, char **words)
 {
     struct store s = new_store(words[0]);
-    latchplume_decoded got = latchplume_decode(data, length, s.words, s.count);
-    print_answer("decode", &got.answer);
+    latchplume_decoded got = call(data, length, s.words, s.count);
+    print_answer(name, &got.answer);
     printf(" agent_address=");
     print_address(&got.agent_address);
     printf(" sub_agent_id=%" PRIu32 " sequence_number=%" PRIu32, got.sub_agent_id, got.sequence_number);
@@ -138,12 +143,32 @@ static void do_decode(char **words)
     end_store(&s, &got.answer);
 }
 
-static void do_run(char **words)
+static void do_decode(char **words)
+{
+    decode_by(latchplume_decode, "decode", words);
+}
+
+static void do_decode_base(char **words)
+{
+    decode_by(latchplume_decode_base, "decode_base", words);
+}
+
+static void run_by(runner *call, const char *name, char **words)
 {
     struct store s = new_store(words[0]);
-    latchplume_answer got = latchplume_decode_run(data, length, s.words, s.count);
-    print_answer("run", &got);
+    latchplume_answer got = call(data, length, s.words, s.count);
+    print_answer(name, &got);
     end_store(&s, &got);
+}
+
+static void do_run(char **words)
+{
+    run_by(latchplume_decode_run, "run", words);
+}
+
+static void do_run_base(char **words)
+{
+    run_by(latchplume_decode_run_base, "run_base", words);
 }
 
 static void print_outcome(const char *name, const latchplume_outcome *o)
@@ -187,7 +212,7 @@ static const uint32_t *descriptor(char **words)
     return one;
 }
 
-static void do_read(char **words)
+static void read_by(enum mode mode, char **words)
 {
     for (size_t i = 0; i < LAYOUTS_COUNT; i++) {
         const struct layout *layout = &LAYOUTS[i];
@@ -195,7 +220,7 @@ static void do_read(char **words)
             continue;
         union reading got;
         memset(&got, 0xee, sizeof got);
-        layout->read(&got, data, length, descriptor(words + 1));
+        layout->read[mode](&got, data, length, descriptor(words + 1));
         print_outcome(layout->name, &got.outcome);
         for (size_t f = 0; f < layout->count; f++)
             print_field(&layout->fields[f], &got);
@@ -203,6 +228,16 @@ static void do_read(char **words)
         return;
     }
     bad(words[0]);
+}
+
+static void do_read(char **words)
+{
+    read_by(MEMO, words);
+}
+
+static void do_read_base(char **words)
+{
+    read_by(BASE, words);
 }
 
 static void do_payload(char **words)
@@ -253,7 +288,8 @@ static void do_line(char *line)
         const char *name;
         size_t words;
         void (*call)(char **words);
-    } calls[] = {{"decode", 1, do_decode}, {"run", 1, do_run}, {"read", 1 + DESCRIPTOR, do_read}, {"payload", DESCRIPTOR, do_payload},
+    } calls[] = {{"decode", 1, do_decode}, {"decode_base", 1, do_decode_base}, {"run", 1, do_run}, {"run_base", 1, do_run_base},
+                 {"read", 1 + DESCRIPTOR, do_read}, {"read_base", 1 + DESCRIPTOR, do_read_base}, {"payload", DESCRIPTOR, do_payload},
                  {"whole", DESCRIPTOR, do_whole}, {"word", 3, do_word}, {"segment", 1, do_segment}, {"split", 1, do_split}};
     char *words[MOST] = {0};
     size_t count = 0;

@@ -1,7 +1,8 @@
 """A declaration that is not the library's own must be noticed.
 
 Copies of the header are made in which two neighbouring fields of a struct have changed places, and the same calls are made through
-them: for each struct and each pair, some answer must come out wrong."""
+them: for each struct and each pair, some answer must come out wrong, and of each function that answers this struct. In other copies a
+function is declared as that of the other mode: its answers must come out wrong, and no other's."""
 import os
 import re
 
@@ -41,6 +42,28 @@ def wrong_groups(script, header, name):
     return {group for group, expected, got in zip(script.groups, script.expected, lines) if expected != got}
 
 
+def answering(header, name):
+    """The functions that answer a struct."""
+    return set(re.findall(r"^%s (latchplume_\w+)\([^;{]*;$" % name, header, re.M))
+
+
+def functions(groups):
+    return {library_checks.function_of(group) for group in groups}
+
+
+def in_other_mode(header, function):
+    """The header with a function that leads to that of the other mode."""
+    other = function[:-len("_base")] if function.endswith("_base") else function + "_base"
+    return re.sub(r"^(latchplume_\w+ %s\([^;{]*\));$" % function, r'\1 __asm__("%s");' % other, header, flags=re.M)
+
+
+def check_modes(checks, header, script):
+    for function in (name for name in building.declared() if name.endswith("_base")):
+        for one in (function, function[:-len("_base")]):
+            wrong = wrong_groups(script, in_other_mode(header, one), "header-other-mode")
+            checks.same(f"{one} in the other mode is noticed", {one}, functions(wrong))
+
+
 def rounds(of):
     """In each round every struct has one pair swapped, as long as it has pairs."""
     for pair in range(max(len(fields) for fields in of.values()) - 1):
@@ -59,9 +82,12 @@ def check(checks):
             text = swapped(text, name, pair)
         wrong = wrong_groups(script, text, f"header-swapped-{number}")
         for name, pair in pairs:
-            noticed = name.replace("latchplume_", "") in wrong
-            checks.holds(f"{name}: fields {pair} and {pair + 1} swapped are noticed", noticed, "no answer is wrong")
+            calls = answering(header, name)
+            noticed = calls and calls <= functions(wrong)
+            checks.holds(f"{name}: fields {pair} and {pair + 1} swapped are noticed", noticed, "no answer of a call is wrong")
     for name in sorted(SHARED):
         for pair in range(len(of[name]) - 1):
             wrong = wrong_groups(script, swapped(header, name, pair), "header-swapped-shared")
-            checks.holds(f"{name}: fields {pair} and {pair + 1} swapped are noticed", wrong, "no answer is wrong")
+            noticed = wrong and answering(header, name) <= functions(wrong)
+            checks.holds(f"{name}: fields {pair} and {pair + 1} swapped are noticed", noticed, "no answer of a call is wrong")
+    check_modes(checks, header, script)

@@ -10,6 +10,9 @@ MAX_OPAQUE = 104857600
 MAX_DEPTH = 8
 NOBODY = 4294967295
 
+# How a sampled Ethernet record is read: as the memo has it, an address in eight bytes of which the last two are its pad; and in six.
+MEMO, BASE = MODES = ("memo", "base")
+
 # The rows of docs/RULES.md, 3, with the crate's names: kind, format, and the fields in order. A field is a word where no shape is named.
 LAYOUTS = {
     "header": (0, 0, "version:version agent_address:address sub_agent_id sequence_number uptime num_samples"),
@@ -20,7 +23,7 @@ LAYOUTS = {
     "counters_sample_expanded": (1, 4, "sequence_number source_id:two_words num_records"),
     "discarded_packet": (1, 5, "sequence_number source_id:two_words drops input_ifindex output_ifindex reason num_records"),
     "sampled_header": (2, 1, "protocol:protocol frame_length stripped header:opaque"),
-    "sampled_ethernet": (2, 2, "length src_mac:six dst_mac:six eth_type"),
+    "sampled_ethernet": (2, 2, "length src_mac:ethernet dst_mac:ethernet eth_type"),
     "sampled_ipv4": (2, 3, "length protocol src_ip dst_ip src_port dst_port tcp_flags tos"),
     "sampled_ipv6": (2, 4, "length protocol src_ip:sixteen dst_ip:sixteen src_port dst_port tcp_flags priority"),
     "extended_switch": (2, 1001, "src_vlan src_priority dst_vlan dst_priority"),
@@ -114,8 +117,8 @@ def goes_bad(text):
 class Body:
     """The bytes of one layout, the items that they are, the values of its fields, and where an item can be spoiled, and how."""
 
-    def __init__(self, name, rng, **given):
-        self.name, self.rng, self.given = name, rng, given
+    def __init__(self, name, rng, mode=MEMO, **given):
+        self.name, self.rng, self.mode, self.given = name, rng, mode, given
         self.kind, self.format, fields = LAYOUTS[name]
         self.data, self.items, self.fields, self.faults = bytearray(), [], {}, []
         self.lists, self.paths, self.pads = [], [], []  # each with its first byte and its values
@@ -168,8 +171,8 @@ class Body:
         self.item(value + self.rng.randbytes(size - shown))
         return value.hex()
 
-    def six(self, field):
-        return self.block(6, 6, field)
+    def ethernet(self, field):
+        return self.block(6 if self.mode == BASE else 8, 6, field)
 
     def six_of_eight(self, field):
         return self.block(8, 6, field)
@@ -237,7 +240,7 @@ class Body:
 
     def zeros(self):
         """The fields of a refusal."""
-        zero = {"address": "0/" + "00" * 16, "two_words": "0/0", "six": "00" * 6, "six_of_eight": "00" * 6, "sixteen": "00" * 16}
+        zero = {"address": "0/" + "00" * 16, "two_words": "0/0", "ethernet": "00" * 6, "six_of_eight": "00" * 6, "sixteen": "00" * 16}
         zero.update(dict.fromkeys(("opaque", "string", "list", "segments"), "0+0"))
         rows = (field.partition(":") for field in LAYOUTS[self.name][2].split())
         return "".join(f" {field}={zero.get(shape, 0)}" for field, _, shape in rows)
@@ -250,8 +253,8 @@ class Body:
 class Wire:
     """Datagrams end to end: the bytes, the steps of reading them, the descriptors, and the body that each of those stands for."""
 
-    def __init__(self, rng):
-        self.rng, self.data, self.steps, self.rows, self.bodies = rng, bytearray(), 0, [], []
+    def __init__(self, rng, mode=MEMO):
+        self.rng, self.mode, self.data, self.steps, self.rows, self.bodies = rng, mode, bytearray(), 0, [], []
         self.outer = []  # items that nothing encloses: first byte, end, and the steps before it
         self.pads = []  # each with its first byte
 
@@ -343,7 +346,7 @@ class Wire:
 
 def of_one_record(rng, body, sample="flow_sample", depth=1):
     """A datagram with this one record, so deep."""
-    wire = Wire(rng)
+    wire = Wire(rng, body.mode)
     put = wire.put_record(body)
     for _ in range(depth - 1):
         put = wire.put_aggregation([[put]])
@@ -358,7 +361,7 @@ def any_record(wire, rng, depth):
         return wire.put_aggregation([[any_record(wire, rng, depth + 1) for _ in range(rng.randint(0, 2))] for _ in range(rng.randint(0, 3))])
     if turn < 0.3:
         return wire.put_raw(2, rng.choice((1017, 1 << 12 | 1, 5, 0, 4095, 1036)), rng.randbytes(rng.randint(0, 9)))
-    return wire.put_record(Body(rng.choice(RECORDS), rng), rng.choice((0, 0, 1, 4)))
+    return wire.put_record(Body(rng.choice(RECORDS), rng, wire.mode), rng.choice((0, 0, 1, 4)))
 
 
 def any_counter(wire, rng):
@@ -379,7 +382,29 @@ def any_sample(wire, rng):
     return wire.put_sample(name, puts, rng.choice((0, 0, 0, 3)))
 
 
-def any_datagram(rng, wire=None):
-    wire = wire or Wire(rng)
+def any_datagram(rng, wire=None, mode=MEMO):
+    wire = wire or Wire(rng, mode)
     head = wire.datagram([any_sample(wire, rng) for _ in range(rng.randint(0, 4))])
     return wire, head
+
+
+# The sizes of the items of a sampled Ethernet record, in their order: the length, the two addresses, the type.
+ETHERNET = {MEMO: (4, 8, 8, 4), BASE: (4, 6, 6, 4)}
+
+
+def ethernet_cut(payload, mode):
+    """How many items of a sampled Ethernet record these bytes have, and where the first is that they cut, or the end of the last."""
+    at, items = 0, 0
+    for size in ETHERNET[mode]:
+        if at + size > len(payload):
+            break
+        at, items = at + size, items + 1
+    return items, at
+
+
+def ethernet_values(payload, mode):
+    """Its fields, as the test program prints them; an address is the first six of its bytes."""
+    ends = [sum(ETHERNET[mode][:n]) for n in range(5)]
+    length, source, destination, kind = (payload[start:end] for start, end in zip(ends, ends[1:]))
+    numbers = int.from_bytes(length, "big"), int.from_bytes(kind, "big")
+    return f" length={numbers[0]} src_mac={source[:6].hex()} dst_mac={destination[:6].hex()} eth_type={numbers[1]}"

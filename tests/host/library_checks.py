@@ -5,12 +5,20 @@ import subprocess
 
 import building
 import encoder
+import ethernet_checks
 import library
-from encoder import Body, COUNTERS, COUNTER_SAMPLES, DESCRIPTOR_WORDS, LAYOUTS, MAX_DEPTH, MAX_INPUT, NOBODY, RECORDS, SAMPLES, Wire, pads
+from encoder import (
+    BASE, Body, COUNTERS, COUNTER_SAMPLES, DESCRIPTOR_WORDS, LAYOUTS, MAX_DEPTH, MAX_INPUT, MEMO, MODES, NOBODY, RECORDS, SAMPLES, Wire, pads)
 
 NO_ADDRESS = "0/" + "00" * 16
 NO_HEADER = f" agent_address={NO_ADDRESS} sub_agent_id=0 sequence_number=0 uptime=0 num_samples=0"
 MOST = 2 ** 64 - 1
+
+# the functions that do not read fields, by the names that their calls are counted under
+CALLED = {
+    "decode": "latchplume_decode", "decode_base": "latchplume_decode_base", "run": "latchplume_decode_run", "run_base": "latchplume_decode_run_base",
+    "payload": "latchplume_payload", "whole": "latchplume_whole", "word": "latchplume_list_word", "segment": "latchplume_next_segment",
+}
 
 
 def spelt(row):
@@ -19,10 +27,14 @@ def spelt(row):
 
 
 class Script:
-    """Lines for the program `calls`, each with the answer that it must give and the name that it is counted under."""
+    """Lines for the program `calls`, each with the answer that it must give and the name that it is counted under; and the mode that is asked."""
 
     def __init__(self):
-        self.lines, self.expected, self.groups = [], [], []
+        self.lines, self.expected, self.groups, self.mode = [], [], [], MEMO
+
+    def named(self, name):
+        """A call's name in the mode that is asked."""
+        return name + "_base" if self.mode == BASE else name
 
     def data(self, data, size=None):
         self.lines.append("data " + ((bytes(data).hex() or "-") if size is None else f"{bytes(data).hex()}*{size}"))
@@ -33,20 +45,24 @@ class Script:
         self.groups.append(group)
 
     def refused(self, words, code, at, steps, needed=0):
-        self.ask("decode", f"decode {words}", f"decode code={code} at={at} steps={steps} needed={needed}{NO_HEADER} changed=0")
+        name = self.named("decode")
+        self.ask(name, f"{name} {words}", f"{name} code={code} at={at} steps={steps} needed={needed}{NO_HEADER} changed=0")
 
     def decoded(self, wire, head, words):
         fields = head.values(0).replace(" version=5", "")
         rows = "".join(" " + ",".join(map(str, row)) for row in wire.rows)
-        answer = f"decode code=0 at={len(wire.data)} steps={wire.steps} needed={len(wire.rows)}"
-        self.ask("decode", f"decode {words}", f"{answer}{fields}{rows} changed=0")
+        name = self.named("decode")
+        answer = f"{name} code=0 at={len(wire.data)} steps={wire.steps} needed={len(wire.rows)}"
+        self.ask(name, f"{name} {words}", f"{answer}{fields}{rows} changed=0")
 
     def ran(self, words, code, at, steps, needed, rows=()):
         shown = "".join(" " + ",".join(map(str, row)) for row in rows)
-        self.ask("run", f"run {words}", f"run code={code} at={at} steps={steps} needed={needed}{shown} changed=0")
+        name = self.named("run")
+        self.ask(name, f"{name} {words}", f"{name} code={code} at={at} steps={steps} needed={needed}{shown} changed=0")
 
     def read(self, body, row, expected):
-        self.ask(body.name, f"read {body.name} {spelt(row)}", f"{body.name} {expected}")
+        group = self.named(body.name) if body.name == ethernet_checks.NAME else body.name
+        self.ask(group, f"{self.named('read')} {body.name} {spelt(row)}", f"{body.name} {expected}")
 
     def read_refused(self, body, row, code, at=0, steps=0):
         self.read(body, row, f"code={code} at={at} steps={steps}{body.zeros()}")
@@ -85,7 +101,7 @@ def body_checks(s, body, row, base):
 
 def whole_datagrams(s, rng, count):
     for _ in range(count):
-        wire, head = encoder.any_datagram(rng)
+        wire, head = encoder.any_datagram(rng, mode=s.mode)
         room = DESCRIPTOR_WORDS * len(wire.rows)
         s.data(wire.data)
         s.decoded(wire, head, room)
@@ -104,7 +120,7 @@ def whole_datagrams(s, rng, count):
 def cut_datagrams(s, rng, count):
     """A datagram that ends early: code 2 at the first item that passes the end."""
     for _ in range(count):
-        wire, _ = encoder.any_datagram(rng)
+        wire, _ = encoder.any_datagram(rng, mode=s.mode)
         for length in sorted(rng.sample(range(len(wire.data)), min(60, len(wire.data)))):
             start, _, steps = next(item for item in wire.outer if item[1] > length)
             s.data(wire.data[:length])
@@ -113,7 +129,7 @@ def cut_datagrams(s, rng, count):
 
 def runs(s, rng, count):
     for _ in range(count):
-        wire, ends = Wire(rng), [(0, 0, 0)]
+        wire, ends = Wire(rng, s.mode), [(0, 0, 0)]
         for _ in range(rng.randint(1, 4)):
             encoder.any_datagram(rng, wire)
             ends.append((len(wire.data), wire.steps, len(wire.rows)))
@@ -133,9 +149,9 @@ def spoiled(wire, base, offset, raw):
     return data
 
 
-def wire_of(rng, name, depth):
+def wire_of(rng, name, depth, mode=MEMO):
     """A datagram in which this layout stands once, and where: its body, row, first byte, and the steps before it."""
-    body = Body(name, rng)
+    body = Body(name, rng, mode)
     if name in RECORDS:
         wire = encoder.of_one_record(rng, body, rng.choice(("flow_sample", "flow_sample_expanded", "discarded_packet")), depth)
     elif name in COUNTERS:
@@ -152,7 +168,7 @@ def faults(s, rng):
     first.datagram([])
     for name in ["header", *SAMPLES, *RECORDS]:
         for turn in range(6):
-            wire, row, body, base, steps = wire_of(rng, name, (1, 2, MAX_DEPTH)[turn % 3])
+            wire, row, body, base, steps = wire_of(rng, name, (1, 2, MAX_DEPTH)[turn % 3], s.mode)
             for item, offset, code, raw, bad in body.faults:
                 data, at = spoiled(wire, base, offset, raw), base + bad
                 s.data(data)
@@ -168,14 +184,14 @@ def cut_layouts(s, rng):
         if name == "extended_80211_aggregation":
             continue
         for _ in range(3):
-            wire, row, body, base, _ = wire_of(rng, name, 1)
+            wire, row, body, base, _ = wire_of(rng, name, 1, s.mode)
             kind, form, start, *rest = wire.rows[row]
             s.data(wire.data)
             for length in range(len(body.data)):
                 item, offset = body.cut_at(length)
                 s.read_refused(body, (kind, form, start, length, *rest[1:]), 2, base + offset, item)
         for sample in ["flow_sample"] if name in RECORDS else COUNTER_SAMPLES if name in COUNTERS else []:
-            cut_records(s, rng, Body(name, rng), sample)
+            cut_records(s, rng, Body(name, rng, s.mode), sample)
 
 
 def cut_records(s, rng, body, sample):
@@ -217,7 +233,7 @@ def longest(s, rng):
     s.refused(12, 1, 0, 0)
     s.ran(12, 1, 0, 0, 0)
     for name, (kind, form, _) in LAYOUTS.items():
-        body = Body(name, rng)
+        body = Body(name, rng, s.mode)
         s.read_refused(body, (kind, form, 0, 24), 1)
         s.read_refused(body, (kind + 9, form, NOBODY, 24), 1)
     s.payload(wire.rows[0], 0, 0)
@@ -234,7 +250,7 @@ def nothing(s, rng):
     s.ran(0, 0, 0, 0, 0)
     s.ran(12, 0, 0, 0, 0)
     for name, (kind, form, _) in LAYOUTS.items():
-        body = Body(name, rng)
+        body = Body(name, rng, s.mode)
         s.read_refused(body, (kind, form), 2, 0, 0)
         s.read_refused(body, (kind, form, 1), 10)
         s.read_refused(body, (kind + 1, form), 11)
@@ -254,7 +270,7 @@ def nothing(s, rng):
 def ranges_and_kinds(s, rng):
     """Code 10 before 11; a range is never taken modulo 2^32."""
     for name, (kind, form, _) in LAYOUTS.items():
-        body = Body(name, rng)
+        body = Body(name, rng, s.mode)
         size = len(body.data)
         s.data(body.data)
         half = 1 << 31
@@ -319,14 +335,22 @@ def splits(s, rng):
 
 
 def script(count):
-    """All of it; `count` says how many datagrams are made of everything at random."""
-    s, rng = Script(), random.Random(20260101)
-    whole_datagrams(s, rng, count)
-    cut_datagrams(s, rng, max(2, count // 20))
-    runs(s, rng, max(4, count // 5))
-    for part in (faults, cut_layouts, too_deep, longest, nothing, ranges_and_kinds, wholes, words_and_segments, splits):
-        part(s, rng)
+    """All of it, in both modes; `count` says how many datagrams are made of everything at random for each."""
+    s = Script()
+    for mode in MODES:
+        s.mode, rng = mode, random.Random(20260101)
+        whole_datagrams(s, rng, count)
+        cut_datagrams(s, rng, max(2, count // 20))
+        runs(s, rng, max(4, count // 5))
+        for part in (faults, cut_layouts, too_deep, longest, nothing, ranges_and_kinds):
+            part(s, rng)
+    for part in (wholes, words_and_segments, splits, ethernet_checks.check):
+        part(s, random.Random(20260102))
     return s
+
+
+def function_of(group):
+    return CALLED.get(group, "latchplume_read_" + group)
 
 
 def answers(words, s):
@@ -351,9 +375,7 @@ def codes_met(checks, s):
     """Every code is reached by some call, and every function is called."""
     met = {int(m) for line in s.expected for m in re.findall(r"code=(\d+)", line)}
     checks.same("codes that are met", set(range(12)), met)
-    called = {"decode": "latchplume_decode", "run": "latchplume_decode_run", "payload": "latchplume_payload",
-              "whole": "latchplume_whole", "word": "latchplume_list_word", "segment": "latchplume_next_segment"}
-    names = {called.get(group, "latchplume_read_" + group) for group in s.groups if group != "split"}
+    names = {function_of(group) for group in s.groups if group != "split"}
     checks.same("functions that are called", building.declared(), sorted(names))
 
 

@@ -10,6 +10,7 @@ import unicodedata
 import building
 import captures
 import encoder
+import ethernet_checks
 import fault_checks
 import trees
 
@@ -17,6 +18,8 @@ import trees
 SHORT = encoder.word(5) + encoder.word(0) * 5
 SHORT_LISTED = "code=0 at=24 steps=6 descriptors=1\nkind=0 format=0 start=0 length=24 parent=4294967295 depth=0 first=0\n"
 USAGE = "; latchplume --help tells how it is used"
+# the words for each mode
+OPTIONS = {encoder.MEMO: [], encoder.BASE: ["--base"]}
 
 
 class Tool:
@@ -39,9 +42,9 @@ class Tool:
         self.checks.same(f"latchplume {' '.join(words)}: {what}", expected, self.run(*words, **how))
 
 
-def listed(program, data):
+def listed(program, data, *words):
     """What the proved program prints."""
-    ran = subprocess.run([building.at("tests", "program"), program], input=data, capture_output=True)
+    ran = subprocess.run([building.at("tests", "program"), program, *words], input=data, capture_output=True)
     return ran.stdout.decode() if ran.returncode == 0 else f"status {ran.returncode}: {ran.stderr.decode()}"
 
 
@@ -72,20 +75,20 @@ def same_listing(tool, what, expected, *words, **how):
 
 
 def against_the_listing(tool, rng):
-    """list and run print what the proved programs print."""
+    """list and run print what the proved programs print, in both modes."""
     all_real = list(real())
     inputs = all_real + [("damaged " + name, damaged(data, rng)) for name, data in rng.sample(all_real, 30)]
-    inputs += [("made", bytes(encoder.any_datagram(rng)[0].data)) for _ in range(10)]
+    inputs += [("made", bytes(encoder.any_datagram(rng, mode=mode)[0].data)) for mode in encoder.MODES for _ in range(10)]
+    inputs += [("an Ethernet record", bytes(one.wire.data)) for one in ethernet_records(rng, 0)]
     for what, data in inputs:
-        if len(data) <= 8192 and data:
-            expected = listed("listing", data)
-            same_listing(tool, what, expected, "list", tool.file("one", data))
-    for _ in range(12):
-        data = b"".join(one for _, one in rng.sample(all_real, 3))
-        data = data if rng.random() < 0.5 else damaged(data, rng)
-        expected = listed("listing_run", data)
-        same_listing(tool, "a run", expected, "run", tool.file("several", data))
-        same_listing(tool, "a run through a pipe", expected, "run", "-", data=data)
+        for words in OPTIONS.values() if 0 < len(data) <= 8192 else ():
+            same_listing(tool, what, listed("listing", data, *words), "list", *words, tool.file("one", data))
+    runs = [b"".join(one for _, one in rng.sample(all_real, 3)) for _ in range(12)]
+    runs = [data if rng.random() < 0.5 else damaged(data, rng) for data in runs] + [bytes(one.wire.data) for one in ethernet_records(rng, 1)]
+    for data, words in [(data, words) for data in runs for words in OPTIONS.values()]:
+        expected = listed("listing_run", data, *words)
+        same_listing(tool, "a run", expected, "run", *words, tool.file("several", data))
+        same_listing(tool, "a run through a pipe", expected, "run", *words, "-", data=data)
 
 
 def real_shown(tool):
@@ -126,6 +129,7 @@ def usages(tool):
     for words, said in (
         ("", "list, run, show or cut is missing"), ("list", "a file is missing"), ("look one", "there is no command look"),
         ("list one two", "one file at a time, and here is another: two"), ("show --prot 1 one", "there is no option --prot"),
+        ("show --bas one", "there is no option --bas"), ("list --base=1 one", "there is no option --base=1"), ("run --memo one", "there is no option --memo"),
         ("cut one", "the index of a descriptor is missing"), ("cut one -1", "there is no option -1"),
         ("cut one 0x1", "an index is a number from 0 on, and not 0x1"), ("cut one 0 1", "one file at a time, and here is another: 1"),
         ("cut one " + "9" * 30, "an index is a number from 0 on, and not " + "9" * 30), ("list --packet 1 one", "there is no option --packet"),
@@ -171,18 +175,20 @@ def pads_shown(tool, rng):
 
 def trees_shown(tool, rng):
     """Every field that the encoder put in stands in the tree, in order and by its name."""
-    for number in range(60):
-        wire, _ = encoder.any_datagram(rng)
+    for number in range(90):
+        mode = encoder.MODES[number % 2]
+        wire, _ = encoder.any_datagram(rng, mode=mode)
         if number % 3 == 0:
             encoder.any_datagram(rng, wire)
-        status, out, said = tool.run("show", "--full", tool.file("tree", wire.data))
-        tool.checks.same("show: status", (0, ""), (status, said))
-        tool.checks.same("show: the fields", trees.expected_fields(wire), trees.fields_of(out))
+        status, out, said = tool.run("show", "--full", *OPTIONS[mode], tool.file("tree", wire.data))
+        tool.checks.same(f"show: status, {mode}", (0, ""), (status, said))
+        tool.checks.same(f"show: the fields, {mode}", trees.expected_fields(wire), trees.fields_of(out))
     for name, given, lines in trees.EXAMPLES:
-        wire = trees.wire_with(rng, name, given)
-        out = tool.run("show", tool.file("tree", wire.data))[1]
-        for line in lines:
-            tool.checks.same(f"show {name}: {line}", True, line in [one.strip() for one in out.split("\n")])
+        for mode, words in OPTIONS.items():
+            wire = trees.wire_with(rng, name, given, mode)
+            out = tool.run("show", *words, tool.file("tree", wire.data))[1]
+            for line in lines:
+                tool.checks.same(f"show {name}, {mode}: {line}", True, line in [one.strip() for one in out.split("\n")])
 
 
 def whole_of(data, row):
@@ -206,20 +212,72 @@ def cuts(tool, rng):
 
 def cuts_read_back(tool, rng):
     """A record that was cut out, as the one record of a sample that is made here, shows the same fields."""
-    for name in encoder.RECORDS + encoder.COUNTERS:
-        body = encoder.Body(name, rng)
+    for mode, name in [(mode, name) for mode in encoder.MODES for name in encoder.RECORDS + encoder.COUNTERS]:
+        body = encoder.Body(name, rng, mode)
         if name in encoder.COUNTERS:
             wire, form, before = encoder.of_one_record(rng, body, rng.choice(encoder.COUNTER_SAMPLES)), 2, (0, 0, 1)
         else:
             wire, form, before = encoder.of_one_record(rng, body, depth=rng.randint(1, encoder.MAX_DEPTH)), 1, (0, 0, 0, 0, 0, 0, 0, 1)
-        status, cut, said = tool.run("cut", tool.file("one", wire.data), str(len(wire.rows) - 1), raw=True)
+        status, cut, said = tool.run("cut", *OPTIONS[mode], tool.file("one", wire.data), str(len(wire.rows) - 1), raw=True)
         tool.checks.same(f"cut {name}: status", (0, ""), (status, said))
         sample = b"".join(map(encoder.word, (form, 4 * len(before) + len(cut), *before))) + cut
-        status, out, said = tool.run("show", "--full", tool.file("made", SHORT[:20] + encoder.word(1) + sample))
+        status, out, said = tool.run("show", "--full", *OPTIONS[mode], tool.file("made", SHORT[:20] + encoder.word(1) + sample))
         shapes = (field.partition(":") for field in encoder.LAYOUTS[name][2].split())
         expected = [(field, trees.spoken(body, field, shape, body.fields[field])) for field, _, shape in shapes]
         tool.checks.same(f"show a {name} that was cut out: status", (0, ""), (status, said))
         tool.checks.same(f"show a {name} that was cut out", expected, [one[1:] for one in trees.fields_of(out)][-len(expected):])
+
+
+def ethernet_records(rng, around):
+    """Sampled Ethernet records whose lengths tell the modes apart, and others."""
+    for length in (0, 4, 12, 19, 20, 23, 24, 40):
+        for depth in ethernet_checks.DEPTHS:
+            yield ethernet_checks.Record(rng, rng.randbytes(length), depth, rng.choice(ethernet_checks.SAMPLES), around)
+
+
+def listing(code, at, steps, rows):
+    lines = [f"code={code} at={at} steps={steps} descriptors={len(rows)}"]
+    lines += ["kind=%d format=%d start=%d length=%d parent=%d depth=%d first=%d" % row for row in rows]
+    return "".join(line + "\n" for line in lines)
+
+
+def bases(tool, rng):
+    """list, run, show and cut with --base and without, over the same bytes: what the encoder reads in each mode."""
+    for one in ethernet_records(rng, 0):
+        tool.file("bare", one.wire.data)
+        tool.file("capture", captures.pcap([captures.ipv4(captures.udp(bytes(one.wire.data)))], captures.RAW))
+        for mode, words in OPTIONS.items():
+            code, at, steps = one.decoded(mode)
+            expected, counted = listing(code, at, steps, [] if code else one.wire.rows), "1 packets: 1 datagrams, 0 cut, 0 fragments, 0 others\n"
+            tool.same("a datagram", (bool(code), expected, ""), "list", *words, "bare")
+            tool.same("a packet", (bool(code), f"packet 1\n{expected}{counted}", ""), "list", *words, "capture")
+    for one in ethernet_records(rng, 1):
+        tool.file("several", one.wire.data)
+        for mode, words in OPTIONS.items():
+            tool.same("a run", (0, listing(*one.ran(mode)), ""), "run", *words, "several")
+            shown(tool, one, mode, words, "several")
+            cut_by(tool, one, mode, words, "several")
+
+
+def shown(tool, one, mode, words, name):
+    """The record's fields in the tree, or where the datagram is refused."""
+    code, at, _ = one.read(mode)
+    status, out, said = tool.run("show", *words, name)
+    if code:
+        tool.checks.same(f"show {name}, {mode}", (1, True, ""), (status, f"  position: {at}, after " in out, said))
+        return
+    values = dict(part.split("=") for part in encoder.ethernet_values(one.payload, mode).split())
+    expected = [values["length"], *(bytes.fromhex(values[field]).hex(":") for field in ("src_mac", "dst_mac")), values["eth_type"]]
+    got = [value for _, field, value in trees.fields_of(out) if field in values]
+    tool.checks.same(f"show {name}, {mode}", (0, expected, ""), (status, got, said))
+
+
+def cut_by(tool, one, mode, words, name):
+    """The record's bytes; where its datagram is refused, the run before it has no such descriptor."""
+    index, last = one.wire.rows.index(one.row), one.first[1] - 1
+    there = (0, whole_of(one.wire.data, one.row), "")
+    missing = (2, b"", f"latchplume: {name}: has no descriptor {index}: the last one is {last}\n")
+    tool.same("a record", missing if one.read(mode)[0] else there, "cut", *words, name, str(index), raw=True)
 
 
 def cut_troubles(tool):
@@ -347,7 +405,7 @@ def check_all(checks, room):
     tool = Tool(checks, room, building.made("latchplume-checked"))
     for part in (real_shown, troubles, usages, cut_troubles):
         part(tool)
-    for part in (refusals, fault_checks.check, pads_shown, trees_shown, cuts, cuts_read_back, nothing_raw, long_fields):
+    for part in (refusals, fault_checks.check, pads_shown, trees_shown, cuts, cuts_read_back, bases, nothing_raw, long_fields):
         part(tool, rng)
     before_anything_is_built(checks, room, Tool(checks, room, building.made("latchplume")))
     the_script(checks, room)

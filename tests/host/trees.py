@@ -3,7 +3,7 @@ import ipaddress
 import re
 
 import library_checks
-from encoder import Body, COUNTERS, LAYOUTS, MAX_DEPTH, MAX_OPAQUE, RECORDS, Span, Wire, of_one_record
+from encoder import Body, COUNTERS, LAYOUTS, MAX_DEPTH, MAX_OPAQUE, MEMO, RECORDS, Span, Wire, of_one_record
 
 # the words of docs/RULES.md, 5
 CODES = {
@@ -24,7 +24,8 @@ EXAMPLES = [
     ("discarded_packet", {"reason": 16}, ["reason: 16"]),
     ("sampled_header", {"protocol": 11, "header": b"E\0<tag>"}, ["protocol: 11 (IPv4)", "header: 7 bytes"]),
     ("sampled_header", {"protocol": 17}, ["protocol: 17 (802.11 A-MSDU)"]),
-    ("sampled_ethernet", {"src_mac": bytes.fromhex("00005e005301"), "eth_type": 0x86dd}, ["src_mac: 00:00:5e:00:53:01", "eth_type: 34525 (0x86dd)"]),
+    ("sampled_ethernet", {"src_mac": bytes.fromhex("00005e005301"), "dst_mac": bytes.fromhex("00005e0053fe"), "eth_type": 0x86dd},
+     ["src_mac: 00:00:5e:00:53:01", "dst_mac: 00:00:5e:00:53:fe", "eth_type: 34525 (0x86dd)"]),
     ("sampled_ipv4", {"protocol": 6, "src_ip": 0xc0000201, "tcp_flags": 0x12}, ["protocol: 6 (TCP)", "src_ip: 192.0.2.1", "tcp_flags: 18 (SYN ACK)"]),
     ("extended_switch", {"src_vlan": 4294967295, "dst_vlan": 20}, ["src_vlan: 4294967295 (unknown)", "dst_vlan: 20"]),
     ("extended_gateway", {"dst_as_path": [(2, [65001, 65002]), (1, [65003]), (7, [])], "communities": [65000 << 16 | 100]},
@@ -61,10 +62,10 @@ def wire_of(rng, name):
     return library_checks.wire_of(rng, name, 1)
 
 
-def wire_with(rng, name, given):
+def wire_with(rng, name, given, mode=MEMO):
     """A datagram with this layout and these values in it."""
     if name in RECORDS + COUNTERS:
-        return of_one_record(rng, Body(name, rng, **given), "counters_sample" if name in COUNTERS else "flow_sample")
+        return of_one_record(rng, Body(name, rng, mode, **given), "counters_sample" if name in COUNTERS else "flow_sample")
     wire = Wire(rng)
     if name == "header":
         wire.datagram([], **given)
@@ -103,7 +104,7 @@ def spoken(body, field, shape, value):
         return str(ipaddress.ip_address(value))
     if shape == "sixteen":
         return str(ipaddress.ip_address(bytes.fromhex(value)))
-    if shape in ("six", "six_of_eight"):
+    if shape in ("ethernet", "six_of_eight"):
         return bytes.fromhex(value).hex(":")
     if shape == "string":
         return escaped(bytes(body.data[value.start:value.start + value.count]).decode())

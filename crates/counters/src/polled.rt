@@ -5,7 +5,7 @@ ghost use mathlib.Core.List.{[], _∷_, _++_};
 ghost use Prim.Native.Nat.{_≤_};
 ghost use lib.ListN.{length};
 ghost use Rattle.reading.specs.Script.{long};
-ghost use Rattle.reading.specs.Layout.{plain, words};
+ghost use Rattle.reading.specs.Layout.{memo, plain, words};
 ghost use Rattle.reading.specs.Values.{zeros};
 ghost use Rattle.reading.specs.Answer.{layout-of};
 ghost use Rattle.reading.proofs.Widths.{numbers};
@@ -101,7 +101,7 @@ impl GenericInterfaceCounters {
 
     pub fn parse(p: Passed, s: &[u8]) -> GenericInterfaceCounters
         requires { ⌜ Within (now s) p ⌝ }
-        ensures { λ r. ⌜ Answers (layout-of 3 1) (now (s .entry)) p (r .outcome) (generic-interface-counters r) ⌝ }
+        ensures { λ r. ⌜ Answers (layout-of memo 3 1) (now (s .entry)) p (r .outcome) (generic-interface-counters r) ⌝ }
     {
         let row = data::read(p, s, 1);
         let passed = row.passed;
@@ -180,7 +180,7 @@ impl EthernetInterfaceCounters {
 
     pub fn parse(p: Passed, s: &[u8]) -> EthernetInterfaceCounters
         requires { ⌜ Within (now s) p ⌝ }
-        ensures { λ r. ⌜ Answers (layout-of 3 2) (now (s .entry)) p (r .outcome) (ethernet-interface-counters r) ⌝ }
+        ensures { λ r. ⌜ Answers (layout-of memo 3 2) (now (s .entry)) p (r .outcome) (ethernet-interface-counters r) ⌝ }
     {
         let row = data::read(p, s, 2);
         let passed = row.passed;
@@ -274,7 +274,7 @@ impl TokenRingCounters {
 
     pub fn parse(p: Passed, s: &[u8]) -> TokenRingCounters
         requires { ⌜ Within (now s) p ⌝ }
-        ensures { λ r. ⌜ Answers (layout-of 3 3) (now (s .entry)) p (r .outcome) (token-ring-counters r) ⌝ }
+        ensures { λ r. ⌜ Answers (layout-of memo 3 3) (now (s .entry)) p (r .outcome) (token-ring-counters r) ⌝ }
     {
         let row = data::read(p, s, 3);
         let passed = row.passed;
@@ -356,7 +356,7 @@ impl Vg100InterfaceCounters {
 
     pub fn parse(p: Passed, s: &[u8]) -> Vg100InterfaceCounters
         requires { ⌜ Within (now s) p ⌝ }
-        ensures { λ r. ⌜ Answers (layout-of 3 4) (now (s .entry)) p (r .outcome) (vg100-interface-counters r) ⌝ }
+        ensures { λ r. ⌜ Answers (layout-of memo 3 4) (now (s .entry)) p (r .outcome) (vg100-interface-counters r) ⌝ }
     {
         let row = data::read(p, s, 4);
         let passed = row.passed;
@@ -414,7 +414,7 @@ impl VlanCounters {
 
     pub fn parse(p: Passed, s: &[u8]) -> VlanCounters
         requires { ⌜ Within (now s) p ⌝ }
-        ensures { λ r. ⌜ Answers (layout-of 3 5) (now (s .entry)) p (r .outcome) (vlan-counters r) ⌝ }
+        ensures { λ r. ⌜ Answers (layout-of memo 3 5) (now (s .entry)) p (r .outcome) (vlan-counters r) ⌝ }
     {
         let row = data::read(p, s, 5);
         let passed = row.passed;
@@ -469,7 +469,7 @@ impl ProcessorCounters {
 
     pub fn parse(p: Passed, s: &[u8]) -> ProcessorCounters
         requires { ⌜ Within (now s) p ⌝ }
-        ensures { λ r. ⌜ Answers (layout-of 3 1001) (now (s .entry)) p (r .outcome) (processor-counters r) ⌝ }
+        ensures { λ r. ⌜ Answers (layout-of memo 3 1001) (now (s .entry)) p (r .outcome) (processor-counters r) ⌝ }
     {
         let row = data::read(p, s, 1001);
         let passed = row.passed;

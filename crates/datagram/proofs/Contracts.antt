@@ -7,14 +7,14 @@ use mathlib.Core.List.{List, [], _∷_}
 use denote.Ref.{now, at-last}
 use Rattle.reading.specs.Script.{number}
 use Rattle.reading.specs.Cursor.{follow}
-use Rattle.reading.specs.Layout.{version, datagram}
+use Rattle.reading.specs.Layout.{memo, base as base-mode, version, datagram}
 use Rattle.reading.specs.Answer.{from, layout-of, answered, one, run}
 use Rattle.reading.proofs.Counts.{counted}
 use Rattle.xdr.specs.declared.Passed.the-variants as passed
 use Rattle.xdr.specs.Shown.{answer-of, place, read-on}
 use Rattle.xdr.proofs.Settles.{Settles, settled, settled-by}
 use Rattle.store.specs.declared.Written.{Written}
-use Rattle.layout.specs.Chain.{Then}
+use Rattle.layout.specs.Chain.{Then, mode-of}
 use Rattle.layout.specs.Scanned.{scanned-out}
 use Rattle.store.specs.Written.{written, placed}
 use Rattle.datagram.specs.declared.decode.Answer.{Answer}
@@ -23,31 +23,31 @@ use Rattle.datagram.specs.Shown.{decoded, header-fields, Heads, ran, roo
 use Rattle.datagram.proofs.Lossless.{decoded-lossless, ran-lossless, header-lossless, scanned-lossless, written-lossless}
 use Rattle.datagram.proofs as call
 
-module _ (κs s store : _) where
+module _ (κs s store mode : _) where
   pub decode-settled : Settles
-      (λ (r : Decoded × List ℕ) e. call.decode.decode.Reads.Learnt κs (s, (store, tt)) (r .0) (e, (at-last store (r .1), tt)))
+      (λ (r : Decoded × List ℕ) e. call.decode.decode.Reads.Learnt κs (s, (store, (mode, tt))) (r .0) (e, (at-last store (r .1), (mode, tt))))
       (λ r. decoded (r .0) (r .1))
-      (one (now s) (now store))
+      (one (mode-of mode) (now s) (now store))
   decode-settled = settled decoded-lossless
 
   pub decode-run-settled : Settles
-      (λ (r : Answer × List ℕ) e. call.run.decode_run.Reads.Learnt κs (s, (store, tt)) (r .0) (e, (at-last store (r .1), tt)))
+      (λ (r : Answer × List ℕ) e. call.run.decode_run.Reads.Learnt κs (s, (store, (mode, tt))) (r .0) (e, (at-last store (r .1), (mode, tt))))
       (λ r. ran (r .0) (r .1))
-      (run (now s) (now store))
+      (run (mode-of mode) (now s) (now store))
   decode-run-settled = settled ran-lossless
 
 -- ---- what they call
 
-pub parse-settled : (κs p s : _) → Settles (call.header.Header.parse.Reads.Learnt κs (p, (s, tt))) (λ r. answer-of (r .outcome) (header-fields r)) (answered (read-on (layout-of 0 0) (now s) p))
+pub parse-settled : (κs p s : _) → Settles (call.header.Header.parse.Reads.Learnt κs (p, (s, tt))) (λ r. answer-of (r .outcome) (header-fields r)) (answered (read-on (layout-of memo 0 0) (now s) p))
 parse-settled κs p s = settled-by header-lossless (λ r e h. h .is)
 
-pub scan-datagram-settled : (κs s c count : _) → Settles (call.one.scan_datagram.Reads.Learnt κs (s, (c, (count, tt)))) scanned-out (counted count (follow datagram (now s) (place c)))
-scan-datagram-settled κs s c count = settled scanned-lossless
+pub scan-datagram-settled : (κs s c mode count : _) → Settles (call.one.scan_datagram.Reads.Learnt κs (s, (c, (mode, (count, tt))))) scanned-out (counted count (follow (datagram (mode-of mode)) (now s) (place c)))
+scan-datagram-settled κs s c mode count = settled scanned-lossless
 
 pub put-datagram-settled : (κs s at store base : _) → Settles
     (λ (r : Written × List ℕ) e. call.one.put_datagram.Reads.Learnt κs (s, (at, (store, (base, tt)))) (r .0) (e, (at, (at-last store (r .1), (base, tt)))))
     (λ r. written (r .0) (r .1))
-    (placed (root base) (follow datagram (now s) (from at)) (now store))
+    (placed (root base) (follow (datagram base-mode) (now s) (from at)) (now store))
 put-datagram-settled κs s at store base = settled written-lossless
 
 -- beside a refusal a value is left open, which no caller reads

@@ -7,16 +7,19 @@ use native.Mathlib.Omega.{arith}
 use borrow.Author.Needs.{needs}
 use borrow.Author.Tests.{leb-true, le-leb, lt-leb}
 use lib.Dec.{leb}
-use lib.ListN.{length, drop, getD}
-use Rattle.reading.specs.Script.{Value, number, Found}
+use lib.ListN.{length, take, drop, getD}
+use lib.Seq.{length-take-le}
+use Rattle.reading.specs.Script.{Value, number, Forest, Found}
 use Rattle.reading.specs.Cursor.{Place, Out, got, stop, times, follow}
-use Rattle.reading.specs.Layout.{version, addr, words, last-number, sample, header, datagram}
+use Rattle.reading.specs.Layout.{Mode, base as base-mode, version, addr, words, last-number, sample, header, datagram}
 use Rattle.reading.specs.Answer as answer
 use Rattle.reading.specs.Answer.{limited, size, rows, room, from, nobody, header-of, no-header, refused, stored, one, run}
 use Rattle.reading.specs.Sizes.{descriptor-words, longest-input, depth-limit}
 use Rattle.reading.proofs.Items.{never, split}
 use Rattle.reading.proofs.Room.{whole, thrifty-datagram, datagram-on}
 use Rattle.reading.proofs.Runs.{run-from, thrifty-run}
+use Rattle.reading.proofs.Modes.{Same, in-base}
+use Rattle.reading.proofs.RunModes.{Run-in-base, run-in-base}
 use Rattle.reading.proofs.Counts.{counted}
 use Rattle.reading.proofs.Words.{numbers}
 use Rattle.reading.proofs.Stored.{write, write-length, write-all, rows-length}
@@ -134,20 +137,20 @@ inside-start s = record { inside = omega arith; counted = omega arith }
 
 -- its header, once it is known to be accepted
 module _ (s : List ℕ) {e : Cursor} {k : ℕ} (q : Is-read s e k) where
-  known : Whole (follow datagram s (from 0)) e k
-  known = scanned-whole (follow datagram s (from 0)) e k (q .is)
+  known : Whole (follow (datagram base-mode) s (from 0)) e k
+  known = scanned-whole (follow (datagram base-mode) s (from 0)) e k (q .is)
 
-  head-values : {d : Cursor} {vs : List Value} → Then header s (passed.Got (start-of 0)) (passed.Got d) vs → values-of (follow datagram s (from 0)) ≡ vs
+  head-values : {d : Cursor} {vs : List Value} → Then header s (passed.Got (start-of 0)) (passed.Got d) vs → values-of (follow (datagram base-mode) s (from 0)) ≡ vs
   unfolding values-of
   head-values {d} {vs} (goes f i) =
       let a = known in
-      let t = split (times (last-number vs) (follow (sample depth-limit)) s (place d)) _ (sym (begun s (start-of 0) d f) ∙ a .is) in
+      let t = split (times (last-number vs) (follow (sample base-mode depth-limit)) s (place d)) _ (sym (begun base-mode s (start-of 0) d f) ∙ a .is) in
       let g : got (whole 0 vs (t .value) (t .place)) (t .place) ≡ got (a .found) (place e) = t .second in
       let x : whole 0 vs (t .value) (t .place) ≡ a .found = cc in
       ap values-of (a .is) ∙ ap (λ (r : Found). r .values) (sym x)
 
   no-halt : {x : Outcome} {vs : List Value} {A : Type 0} → Then header s (passed.Got (start-of 0)) (passed.Stop x) vs → A
-  no-halt {x} (halts f) = never (sym (not-begun s (start-of 0) x f) ∙ known .is)
+  no-halt {x} (halts f) = never (sym (not-begun base-mode s (start-of 0) x f) ∙ known .is)
 
   -- its three parts
   module _ {p₀ p₁ p₂ : Passed} {v : ℕ} (at : ℕ) {a : Address} (t : Then (version ∷ []) s (passed.Got (start-of 0)) p₀ (number v ∷ [])) (u : Then (addr ∷ []) s p₀ p₁ (an-address a ∷ []))
@@ -165,100 +168,121 @@ module _ (s : List ℕ) {e : Cursor} {k : ℕ} (q : Is-read s e k) where
     }) e k
     unfolding header-of
     header-known {d} ws h l =
-        let f : values-of (follow datagram s (from 0)) ≡ number v ∷ an-address a ∷ loaded 4 ws = head-values (rw h at (both (both t u) w)) ∙ ap (λ (ns : List Value). number v ∷ an-address a ∷ ns) (sym l) in
+        let f : values-of (follow (datagram base-mode) s (from 0)) ≡ number v ∷ an-address a ∷ loaded 4 ws = head-values (rw h at (both (both t u) w)) ∙ ap (λ (ns : List Value). number v ∷ an-address a ∷ ns) (sym l) in
         record { leaves = λ m. ap (λ (x : answer.Header). record { code = 0; at = e .at; steps = e .steps; needed = k; head = x; store = m }) (sym (ap header-of f)) }
 
-module _ (s w : List ℕ) where
-  pub too-long : {d : Decoded} → Refuses d 1 0 0 0 → longest-input < length s → decoded d w ≡ one s w
+module _ (mode : Mode) (s w : List ℕ) where
+  pub too-long : {d : Decoded} → Refuses d 1 0 0 0 → longest-input < length s → decoded d w ≡ one mode s w
   unfolding one
-  too-long e h = e .leaves w ∙ beyond header-of (follow datagram s (from 0)) s w h
+  too-long e h = e .leaves w ∙ beyond header-of (follow (datagram mode) s (from 0)) s w h
 
-  module _ (short : length s ≤ longest-input) {j : Scanned} (i : scanned-out j ≡ counted 0 (follow datagram s (from 0))) where
-    pub stays : {x : Outcome} {d : Decoded} → j ≡ scanned.Stop x → Refuses d (x .code) (x .at) (x .steps) 0 → decoded d w ≡ one s w
+  module _ (short : length s ≤ longest-input) {j : Scanned} (i : scanned-out j ≡ counted 0 (follow (datagram mode) s (from 0))) where
+    pub stays : {x : Outcome} {d : Decoded} → j ≡ scanned.Stop x → Refuses d (x .code) (x .at) (x .steps) 0 → decoded d w ≡ one mode s w
     unfolding one
-    stays {x} q e = e .leaves w ∙ stops header-of (follow datagram s (from 0)) s w short x (rw q at i)
+    stays {x} q e = e .leaves w ∙ stops header-of (follow (datagram mode) s (from 0)) s w short x (rw q at i)
 
     module _ {e : Cursor} {k : ℕ} (q : j ≡ scanned.Got e k) where
+      there : Whole (follow (datagram mode) s (from 0)) e k
+      there = scanned-whole (follow (datagram mode) s (from 0)) e k (rw q at i)
+
+      -- the base mode reads the same
+      same : follow (datagram base-mode) s (from 0) ≡ follow (datagram mode) s (from 0)
+      same = in-base mode .is s (from 0) (there .found) (place e) (there .is) ∙ sym (there .is)
+
       pub is-read : Is-read s e k
-      is-read = record { is = rw q at i }
+      is-read = record { is = (rw q at i) ∙ ap (counted 0) (sym same) }
 
-      there : Whole (follow datagram s (from 0)) e k
-      there = known s is-read
-
-      pub no-room : {d : Decoded} → room w < k → Refuses d 9 0 (e .steps) k → decoded d w ≡ one s w
+      pub no-room : {d : Decoded} → room w < k → Refuses d 9 0 (e .steps) k → decoded d w ≡ one mode s w
       unfolding one
-      no-room h f = f .leaves w ∙ lacks header-of (follow datagram s (from 0)) s w short e k there h
+      no-room h f = f .leaves w ∙ lacks header-of (follow (datagram mode) s (from 0)) s w short e k there h
 
-      pub all-ready : k ≤ room w → Ready s w (root 0) (follow datagram s (from 0))
+      pub all-ready : k ≤ room w → Ready s w (root 0) (follow (datagram base-mode) s (from 0))
       all-ready h =
-          let t = there in
-          let y = thrifty-datagram 8 s (from 0) (t .found) (place e) (omega arith) (t .is) in
-          let f = datagram-on 8 s (from 0) (omega arith) (t .is) in
+          let t = known s is-read in
+          let y = thrifty-datagram base-mode depth-limit s (from 0) (t .found) (place e) (omega arith) (t .is) in
+          let f = datagram-on base-mode depth-limit s (from 0) (omega arith) (t .is) in
           let x = t .count in
-          fills header-of (follow datagram s (from 0)) s w short e k t h (omega (arith, y, f .1))
+          fills header-of (follow (datagram base-mode) s (from 0)) s w short e k t h (omega (arith, y, f .1))
 
-      pub all-stored : {a b : ℕ} {l′ : List ℕ} {d : Decoded} → k ≤ room w → a-put a b l′ ≡ placed (root 0) (follow datagram s (from 0)) w → Accepts s d e k → decoded d l′ ≡ one s w
+      pub all-stored : {a b : ℕ} {l′ : List ℕ} {d : Decoded} → k ≤ room w → a-put a b l′ ≡ placed (root 0) (follow (datagram base-mode) s (from 0)) w → Accepts s d e k → decoded d l′ ≡ one mode s w
       unfolding one values-of
       all-stored {l′ = l′} h f g =
-          let t = there in
-          let d : header-of (values-of (follow datagram s (from 0))) ≡ header-of (t .found .values) = ap (λ (u : Out Found). header-of (values-of u)) (t .is) in
-          g .leaves l′ ∙ stores header-of (follow datagram s (from 0)) s w short e k t h (store-is (root 0) _ w f) d
+          let t = known s is-read in
+          let d : header-of (values-of (follow (datagram base-mode) s (from 0))) ≡ header-of (t .found .values) = ap (λ (u : Out Found). header-of (values-of u)) (t .is) in
+          g .leaves l′ ∙ stores header-of (follow (datagram base-mode) s (from 0)) s w short e k t h (store-is (root 0) _ w f) d ∙ ap (λ (o : Out Found). answered header-of o s w) same
 
-pub decoded-room : {l : List ℕ} (s w : List ℕ) (d : Decoded) → decoded d l ≡ one s w → length l ≡ length w → d .answer .code ≡ 0 → descriptor-words * d .answer .needed ≤ length l
+pub decoded-room : {l : List ℕ} (mode : Mode) (s w : List ℕ) (d : Decoded) → decoded d l ≡ one mode s w → length l ≡ length w → d .answer .code ≡ 0 → descriptor-words * d .answer .needed ≤ length l
 unfolding one
-decoded-room {l} s w d e k c =
-    let x : d .answer .code ≡ answered header-of (follow datagram s (from 0)) s w .code = ap (λ (r : answer.Answer). r .code) e in
-    let y : d .answer .needed ≡ answered header-of (follow datagram s (from 0)) s w .needed = ap (λ (r : answer.Answer). r .needed) e in
-    let z = has-room header-of (follow datagram s (from 0)) s w (sym x ∙ c) in
+decoded-room {l} mode s w d e k c =
+    let x : d .answer .code ≡ answered header-of (follow (datagram mode) s (from 0)) s w .code = ap (λ (r : answer.Answer). r .code) e in
+    let y : d .answer .needed ≡ answered header-of (follow (datagram mode) s (from 0)) s w .needed = ap (λ (r : answer.Answer). r .needed) e in
+    let z = has-room header-of (follow (datagram mode) s (from 0)) s w (sym x ∙ c) in
     rw y (omega (arith, z))
 
 pub ruleset deciding = (at-start, too-long, stays, is-read, no-room, all-ready, all-stored, put-kept, needs)
 
 -- ---- a run
-module _ (s w : List ℕ) where
-  pub run-too-long : longest-input < length s → refused 1 0 0 0 w ≡ run s w
+module _ (mode : Mode) (s w : List ℕ) where
+  pub run-too-long : longest-input < length s → refused 1 0 0 0 w ≡ run mode s w
   unfolding run run-from
-  run-too-long h = beyond (λ _. no-header) (run-from s (from 0)) s w h
+  run-too-long h = beyond (λ _. no-header) (run-from mode s (from 0)) s w h
 
-  module _ (short : length s ≤ longest-input) {m : Scanned} (i : scanned-out m ≡ counted 0 (run-from s (from 0))) where
-    pub run-stays : {x : Outcome} → m ≡ scanned.Stop x → refused (x .code) (x .at) (x .steps) 0 w ≡ run s w
+  module _ (short : length s ≤ longest-input) {m : Scanned} (i : scanned-out m ≡ counted 0 (run-from mode s (from 0))) where
+    pub run-stays : {x : Outcome} → m ≡ scanned.Stop x → refused (x .code) (x .at) (x .steps) 0 w ≡ run mode s w
     unfolding run run-from
-    run-stays {x} q = stops (λ _. no-header) (run-from s (from 0)) s w short x (rw q at i)
+    run-stays {x} q = stops (λ _. no-header) (run-from mode s (from 0)) s w short x (rw q at i)
 
     module _ {e : Cursor} {k : ℕ} (q : m ≡ scanned.Got e k) where
-      run-there : Whole (run-from s (from 0)) e k
-      run-there = scanned-whole (run-from s (from 0)) e k (rw q at i)
+      run-there : Whole (run-from mode s (from 0)) e k
+      run-there = scanned-whole (run-from mode s (from 0)) e k (rw q at i)
 
-      pub run-no-room : room w < k → refused 9 0 (e .steps) k w ≡ run s w
+      pub run-no-room : room w < k → refused 9 0 (e .steps) k w ≡ run mode s w
       unfolding run run-from
-      run-no-room h = lacks (λ _. no-header) (run-from s (from 0)) s w short e k run-there h
+      run-no-room h = lacks (λ _. no-header) (run-from mode s (from 0)) s w short e k run-there h
 
-      pub run-ready : k ≤ room w → Ready s w (root 0) (run-from s (from 0))
+      pub run-inside : e .at ≤ length s
+      run-inside = thrifty-run mode s 0 (omega arith) (run-there .is) .1
+
+      pub run-part : e .at ≡ length (take (e .at) s)
+      run-part = sym (length-take-le (e .at) s run-inside)
+
+      -- up to where it ended the base mode's run is the same
+      up-to : Run-in-base s (from 0) (run-there .found) (place e)
+      unfolding run-from
+      up-to = run-in-base mode s (length s) (from 0) (omega arith) (run-there .is)
+
+      same-run : ranges-of (run-from base-mode (take (e .at) s) (from 0)) ≡ ranges-of (run-from mode s (from 0))
+      unfolding ranges-of
+      same-run = ap ranges-of (up-to .is) ∙ sym (ap ranges-of (run-there .is))
+
+      pub run-ready : k ≤ room w → Ready (take (e .at) s) w (root 0) (run-from base-mode (take (e .at) s) (from 0))
       run-ready h =
           let t = run-there in
-          let y = thrifty-run s 0 (omega arith) (t .is) in
+          let y = thrifty-run mode s 0 (omega arith) (t .is) in
           let x = t .count in
-          fills (λ _. no-header) (run-from s (from 0)) s w short e k t h (omega (arith, y .0, y .1))
+          let l = length-take-le (e .at) s run-inside in
+          fills (λ _. no-header) (run-from base-mode (take (e .at) s) (from 0)) (take (e .at) s) w (omega (arith, l, short, y .1)) (record { at = e .at; steps = up-to .steps }) k
+          (record { found = t .found; is = up-to .is; count = t .count }) h (omega (arith, y .0, y .1, x, short))
 
-      pub run-end : e .at ≡ end-of (run-from s (from 0))
+      pub run-end : length (take (e .at) s) ≡ end-of (run-from base-mode (take (e .at) s) (from 0))
       unfolding end-of
-      run-end = sym (ap end-of (run-there .is))
+      run-end = length-take-le (e .at) s run-inside ∙ sym (ap end-of (up-to .is))
 
-      pub run-stored : {l′ : List ℕ} → k ≤ room w → l′ ≡ write w 0 (rows 0 nobody (ranges-of (run-from s (from 0))))
-          → record { code = 0; at = e .at; steps = e .steps; needed = k; head = no-header; store = l′ } ≡ run s w
+      pub run-stored : {l′ : List ℕ} → k ≤ room w → l′ ≡ write w 0 (rows 0 nobody (ranges-of (run-from base-mode (take (e .at) s) (from 0))))
+          → record { code = 0; at = e .at; steps = e .steps; needed = k; head = no-header; store = l′ } ≡ run mode s w
       unfolding run run-from
-      run-stored h f = stores (λ _. no-header) (run-from s (from 0)) s w short e k run-there h f refl
+      run-stored h f = stores (λ _. no-header) (run-from mode s (from 0)) s w short e k run-there h (f ∙ ap (λ (r : Forest). write w 0 (rows 0 nobody r)) same-run) refl
 
 -- the store keeps its length
 pub run-kept : {l′ : List ℕ} (w ws : List ℕ) → l′ ≡ write w 0 ws → length l′ ≡ length w
 run-kept w ws e = ap length e ∙ write-length w 0 ws
 
-pub ran-room : {l : List ℕ} (s w : List ℕ) (d : Answer) → ran d l ≡ run s w → length l ≡ length w → d .code ≡ 0 → descriptor-words * d .needed ≤ length l
+pub ran-room : {l : List ℕ} (mode : Mode) (s w : List ℕ) (d : Answer) → ran d l ≡ run mode s w → length l ≡ length w → d .code ≡ 0 → descriptor-words * d .needed ≤ length l
 unfolding run run-from
-ran-room {l} s w d e k c =
-    let x : d .code ≡ answered (λ _. no-header) (run-from s (from 0)) s w .code = ap (λ (r : answer.Answer). r .code) e in
-    let y : d .needed ≡ answered (λ _. no-header) (run-from s (from 0)) s w .needed = ap (λ (r : answer.Answer). r .needed) e in
-    let z = has-room (λ _. no-header) (run-from s (from 0)) s w (sym x ∙ c) in
+ran-room {l} mode s w d e k c =
+    let x : d .code ≡ answered (λ _. no-header) (run-from mode s (from 0)) s w .code = ap (λ (r : answer.Answer). r .code) e in
+    let y : d .needed ≡ answered (λ _. no-header) (run-from mode s (from 0)) s w .needed = ap (λ (r : answer.Answer). r .needed) e in
+    let z = has-room (λ _. no-header) (run-from mode s (from 0)) s w (sym x ∙ c) in
     rw y (omega (arith, z))
 
-pub ruleset deciding-run = (run-too-long, run-stays, run-no-room, run-ready, run-end, run-stored, run-kept, needs)
+pub ruleset deciding-run = (run-too-long, run-stays, run-no-room, run-inside, run-part, run-ready, run-end, run-stored, run-kept, needs)

@@ -11,7 +11,7 @@ use mir.Val.{Fits}
 use Rattle.reading.specs.Bytes.{be4}
 use Rattle.reading.specs.Script.{Value, Range, Forest, bare, tree, Found}
 use Rattle.reading.specs.Cursor.{Out, got, stop, then, times, follow}
-use Rattle.reading.specs.Layout.{version, addr, words, last-number, ranged, between, sample, header, datagram}
+use Rattle.reading.specs.Layout.{Mode, base as base-mode, version, addr, words, last-number, ranged, between, sample, header, datagram}
 use Rattle.reading.specs.Answer.{size, row-of, rows, from, nobody}
 use Rattle.reading.specs.Sizes.{descriptor-words, depth-limit}
 use Rattle.reading.proofs.Room.{whole, datagram-is, header-on}
@@ -38,12 +38,12 @@ use Rattle.layout.proofs.Scan.{scan-inside}
 use Rattle.samples.proofs.Sampling.{behind-cut, behind-last, counted-scan, last-there, last-fits, last-of, last-behind}
 use Rattle.datagram.specs.Shown.{Heads, root}
 
-module _ (s : List ℕ) (c : Cursor) where
-  pub not-begun : (x : Outcome) → fields-out header s (place c) ≡ stop (x .code) (x .at) (x .steps) → follow datagram s (place c) ≡ stop (x .code) (x .at) (x .steps)
-  not-begun x e = datagram-is 8 s (place c) ∙ ap (λ (o : Out (List Value)). then o (λ vs q. then (times (last-number vs) (follow (sample depth-limit)) s q) (λ r e. got (whole (c .at) vs r e) e))) e
+module _ (mode : Mode) (s : List ℕ) (c : Cursor) where
+  pub not-begun : (x : Outcome) → fields-out header s (place c) ≡ stop (x .code) (x .at) (x .steps) → follow (datagram mode) s (place c) ≡ stop (x .code) (x .at) (x .steps)
+  not-begun x e = datagram-is mode depth-limit s (place c) ∙ ap (λ (o : Out (List Value)). then o (λ vs q. then (times (last-number vs) (follow (sample mode depth-limit)) s q) (λ r e. got (whole (c .at) vs r e) e))) e
 
-  pub begun : {vs : List Value} (d : Cursor) → fields-out header s (place c) ≡ got vs (place d) → follow datagram s (place c) ≡ then (times (last-number vs) (follow (sample depth-limit)) s (place d)) (λ r e. got (whole (c .at) vs r e) e)
-  begun d e = datagram-is 8 s (place c) ∙ ap (λ (o : Out (List Value)). then o (λ vs q. then (times (last-number vs) (follow (sample depth-limit)) s q) (λ r e. got (whole (c .at) vs r e) e))) e
+  pub begun : {vs : List Value} (d : Cursor) → fields-out header s (place c) ≡ got vs (place d) → follow (datagram mode) s (place c) ≡ then (times (last-number vs) (follow (sample mode depth-limit)) s (place d)) (λ r e. got (whole (c .at) vs r e) e)
+  begun d e = datagram-is mode depth-limit s (place c) ∙ ap (λ (o : Out (List Value)). then o (λ vs q. then (times (last-number vs) (follow (sample mode depth-limit)) s q) (λ r e. got (whole (c .at) vs r e) e))) e
 
 -- ---- the first pass
 
@@ -97,9 +97,9 @@ module _ (s : List ℕ) (c : Cursor) {r : WordsAt} (h : Heads s c r) where
           all (halts e) = e
 
   -- the datagram, by what stands behind it
-  pub scanned-all : (k : ℕ) {o : Out ℕ} → o ≡ rest-of (sample depth-limit) s (r .passed) (be4 s (r .at + 12)) (k + 1) → o ≡ counted k (follow datagram s (place c))
+  pub scanned-all : (mode : Mode) (k : ℕ) {o : Out ℕ} → o ≡ rest-of (sample mode depth-limit) s (r .passed) (be4 s (r .at + 12)) (k + 1) → o ≡ counted k (follow (datagram mode) s (place c))
   unfolding counted rest-of size
-  scanned-all k i = i ∙ go (r .passed) refl
+  scanned-all mode k i = i ∙ go (r .passed) refl
     where
       more : (vs : List Value) (o : Out Found) → counted (k + 1) o ≡ counted k (then o (λ r i. got (whole (c .at) vs r i) i))
       more vs (got r i) =
@@ -107,11 +107,11 @@ module _ (s : List ℕ) (c : Cursor) {r : WordsAt} (h : Heads s c r) where
           ap (λ (n : ℕ). got n i) z
       more vs (stop x a n) = refl
 
-      go : (p : Passed) → r .passed ≡ p → rest-of (sample depth-limit) s p (be4 s (r .at + 12)) (k + 1) ≡ counted k (follow datagram s (place c))
-      go (passed.Stop x) w = sym (ap (counted k) (not-begun s c x (halted w)))
+      go : (p : Passed) → r .passed ≡ p → rest-of (sample mode depth-limit) s p (be4 s (r .at + 12)) (k + 1) ≡ counted k (follow (datagram mode) s (place c))
+      go (passed.Stop x) w = sym (ap (counted k) (not-begun mode s c x (halted w)))
       go (passed.Got d) w =
           let f = read w in
-          ap (λ (n : ℕ). counted (k + 1) (times n (follow (sample depth-limit)) s (place d))) (sym (f .last)) ∙ more (f .values) (times (last-number (f .values)) (follow (sample depth-limit)) s (place d)) ∙ sym (ap (counted k) (begun s c d (f .is)))
+          ap (λ (n : ℕ). counted (k + 1) (times n (follow (sample mode depth-limit)) s (place d))) (sym (f .last)) ∙ more (f .values) (times (last-number (f .values)) (follow (sample mode depth-limit)) s (place d)) ∙ sym (ap (counted k) (begun mode s c d (f .is)))
 
 pub heads : (s : List ℕ) (c : Cursor) {p q : Passed} {vs : List Value} {r : WordsAt} → Then (version ∷ []) s (passed.Got c) p vs → Ends (addr ∷ []) s p q → Then (words 4) s q (r .passed) (numbers 4 s (r .at)) → There 4 s (r .passed) (r .at) → Heads s c r
 heads s c {q = q} a (ends b) u t = record { behind = q; first = ends (both a b); rest = u; there = t }
@@ -120,25 +120,25 @@ heads s c {q = q} a (ends b) u t = record { behind = q; first = ends (both a b);
 abbrev pub start-of : ℕ → Cursor
 start-of at = record { at = at; steps = 0 }
 
-module _ (s l : List ℕ) (at base : ℕ) (g : Ready s l (root base) (follow datagram s (from at))) (f : at ≤ length s) {p : WordsAt} (h : Heads s (start-of at) p) where
+module _ (s l : List ℕ) (at base : ℕ) (g : Ready s l (root base) (follow (datagram base-mode) s (from at))) (f : at ≤ length s) {p : WordsAt} (h : Heads s (start-of at) p) where
   -- its header was passed
-  pub header-there : {x : Outcome} {r : Put} → p .passed ≡ passed.Stop x → r ≡ placed (root base) (follow datagram s (from at)) l
-  header-there {x} w = absurd (stopped (subst Accepted (not-begun s (start-of at) x (halted s (start-of at) h w)) (g .good)))
+  pub header-there : {x : Outcome} {r : Put} → p .passed ≡ passed.Stop x → r ≡ placed (root base) (follow (datagram base-mode) s (from at)) l
+  header-there {x} w = absurd (stopped (subst Accepted (not-begun base-mode s (start-of at) x (halted s (start-of at) h w)) (g .good)))
 
   module _ {d : Cursor} (w : p .passed ≡ passed.Got d) {n : ℕ} (c : n ≡ be4 s (p .at + 12)) where
     abbrev vs : List Value
     vs = read s (start-of at) h w .values
 
-    is : follow datagram s (from at) ≡ then (times n (follow (sample depth-limit)) s (place d)) (λ r i. got (whole at vs r i) i)
+    is : follow (datagram base-mode) s (from at) ≡ then (times n (follow (sample base-mode depth-limit)) s (place d)) (λ r i. got (whole at vs r i) i)
     is =
-        begun s (start-of at) d (read s (start-of at) h w .is)
-        ∙ ap (λ (m : ℕ). then (times m (follow (sample depth-limit)) s (place d)) (λ r i. got (whole at vs r i) i)) (read s (start-of at) h w .last ∙ sym c)
+        begun base-mode s (start-of at) d (read s (start-of at) h w .is)
+        ∙ ap (λ (m : ℕ). then (times m (follow (sample base-mode depth-limit)) s (place d)) (λ r i. got (whole at vs r i) i)) (read s (start-of at) h w .last ∙ sym c)
 
     ahead : (at ≤ d .at) × (d .at ≤ length s)
     ahead = let y = header-on s (from at) f (read s (start-of at) h w .is) in (omega (arith, y .0), y .1)
 
-    alike : Alike (times n (follow (sample depth-limit)) s (place d)) (times n (follow (sample depth-limit)) s (from (d .at)))
-    alike = steady-times (sample depth-limit) s n (place d) (from (d .at)) refl
+    alike : Alike (times n (follow (sample base-mode depth-limit)) s (place d)) (times n (follow (sample base-mode depth-limit)) s (from (d .at)))
+    alike = steady-times (sample base-mode depth-limit) s n (place d) (from (d .at)) refl
 
     lies : (o u : Out Found) → Alike o u → Accepted (then o (λ r i. got (whole at vs r i) i))
         → Accepted u × (ranges-of (then o (λ r i. got (whole at vs r i) i)) ≡ ranged 0 0 0 at (between at (end-of u)) (ranges-of u)) × (end-of (then o (λ r i. got (whole at vs r i) i)) ≡ end-of u)
@@ -149,18 +149,18 @@ module _ (s l : List ℕ) (at base : ℕ) (g : Ready s l (root base) (follow dat
         (alike-accepted k accepted, rw (z, v), z)
     lies (stop c a n) u k y = absurd (stopped y)
 
-    laid : Accepted (times n (follow (sample depth-limit)) s (from (d .at)))
-        × (ranges-of (follow datagram s (from at)) ≡ ranged 0 0 0 at (between at (end-of (times n (follow (sample depth-limit)) s (from (d .at))))) (ranges-of (times n (follow (sample depth-limit)) s (from (d .at)))))
-        × (end-of (follow datagram s (from at)) ≡ end-of (times n (follow (sample depth-limit)) s (from (d .at))))
+    laid : Accepted (times n (follow (sample base-mode depth-limit)) s (from (d .at)))
+        × (ranges-of (follow (datagram base-mode) s (from at)) ≡ ranged 0 0 0 at (between at (end-of (times n (follow (sample base-mode depth-limit)) s (from (d .at))))) (ranges-of (times n (follow (sample base-mode depth-limit)) s (from (d .at)))))
+        × (end-of (follow (datagram base-mode) s (from at)) ≡ end-of (times n (follow (sample base-mode depth-limit)) s (from (d .at))))
     laid =
         let y = lies _ _ alike (subst Accepted is (g .good)) in
         (y .0, ap ranges-of is ∙ y .1, ap end-of is ∙ y .2)
 
-    sizes : size (ranges-of (follow datagram s (from at))) ≡ 1 + size (ranges-of (times n (follow (sample depth-limit)) s (from (d .at))))
+    sizes : size (ranges-of (follow (datagram base-mode) s (from at))) ≡ 1 + size (ranges-of (times n (follow (sample base-mode depth-limit)) s (from (d .at))))
     unfolding size
     sizes = ap size (laid .1) ∙ add-zero _
 
-    pub samples-ready : Ready s l (a-pen base base descriptor-words) (times n (follow (sample depth-limit)) s (from (d .at)))
+    pub samples-ready : Ready s l (a-pen base base descriptor-words) (times n (follow (sample base-mode depth-limit)) s (from (d .at)))
     samples-ready =
         let k = sizes in
         record { short = g .short; good = laid .0; room = omega (arith, g .room); few = omega (arith, g .few) }
@@ -168,10 +168,10 @@ module _ (s l : List ℕ) (at base : ℕ) (g : Ready s l (root base) (follow dat
     pub start32 : Fits w32 at
     start32 = record { fits = omega (arith, f, g .short) }
 
-    module _ {a b : ℕ} {l′ : List ℕ} (i : a-put a b l′ ≡ placed (a-pen base base descriptor-words) (times n (follow (sample depth-limit)) s (from (d .at))) l) where
+    module _ {a b : ℕ} {l′ : List ℕ} (i : a-put a b l′ ≡ placed (a-pen base base descriptor-words) (times n (follow (sample base-mode depth-limit)) s (from (d .at))) l) where
       end-in : (d .at ≤ a) × (a ≤ length s)
       end-in =
-          let y = forward-times (sample depth-limit) n s (d .at) (ahead .1) (laid .0) in
+          let y = forward-times (sample base-mode depth-limit) n s (d .at) (ahead .1) (laid .0) in
           let k = at-is (a-pen base base descriptor-words) _ l i in
           (omega (arith, y .0), omega (arith, y .1))
 
@@ -191,19 +191,19 @@ module _ (s l : List ℕ) (at base : ℕ) (g : Ready s l (root base) (follow dat
         pub datagram-kept : length l″ ≡ length l
         datagram-kept = ap length q ∙ write-length _ _ _ ∙ put-kept (a-pen base base descriptor-words) _ l i
 
-        pub datagram-placed : a-put a b l″ ≡ placed (root base) (follow datagram s (from at)) l
+        pub datagram-placed : a-put a b l″ ≡ placed (root base) (follow (datagram base-mode) s (from at)) l
         unfolding placed
         datagram-placed =
-            let x : a ≡ end-of (times n (follow (sample depth-limit)) s (from (d .at))) = at-is (a-pen base base descriptor-words) _ l i in
-            let y : b ≡ descriptor-words + descriptor-words * size (ranges-of (times n (follow (sample depth-limit)) s (from (d .at)))) = word-is (a-pen base base descriptor-words) _ l i in
-            let k : l′ ≡ write l (0 + descriptor-words) (rows (index (held-by base 0)) (base + 0 / descriptor-words) (ranges-of (times n (follow (sample depth-limit)) s (from (d .at))))) =
-            store-is (a-pen base base descriptor-words) _ l i ∙ ap (λ (m : ℕ). write l descriptor-words (rows (base + 1) m (ranges-of (times n (follow (sample depth-limit)) s (from (d .at)))))) (sym (add-zero base)) in
-            let t : tree own-range (ranges-of (times n (follow (sample depth-limit)) s (from (d .at)))) bare ≡ ranges-of (follow datagram s (from at)) =
-            ap (λ (m : ℕ). ranged 0 0 0 at (between at m) (ranges-of (times n (follow (sample depth-limit)) s (from (d .at))))) x ∙ sym (laid .1) in
-            let u : a ≡ end-of (follow datagram s (from at)) = x ∙ sym (laid .2) in
-            let m : b ≡ 0 + descriptor-words * size (ranges-of (follow datagram s (from at))) = y ∙ rw sizes (omega arith) in
-            let z : l″ ≡ write l 0 (rows (base + 0 / descriptor-words) nobody (ranges-of (follow datagram s (from at)))) =
-            own-last l base nobody 0 own-range (ranges-of (times n (follow (sample depth-limit)) s (from (d .at)))) k q
+            let x : a ≡ end-of (times n (follow (sample base-mode depth-limit)) s (from (d .at))) = at-is (a-pen base base descriptor-words) _ l i in
+            let y : b ≡ descriptor-words + descriptor-words * size (ranges-of (times n (follow (sample base-mode depth-limit)) s (from (d .at)))) = word-is (a-pen base base descriptor-words) _ l i in
+            let k : l′ ≡ write l (0 + descriptor-words) (rows (index (held-by base 0)) (base + 0 / descriptor-words) (ranges-of (times n (follow (sample base-mode depth-limit)) s (from (d .at))))) =
+            store-is (a-pen base base descriptor-words) _ l i ∙ ap (λ (m : ℕ). write l descriptor-words (rows (base + 1) m (ranges-of (times n (follow (sample base-mode depth-limit)) s (from (d .at)))))) (sym (add-zero base)) in
+            let t : tree own-range (ranges-of (times n (follow (sample base-mode depth-limit)) s (from (d .at)))) bare ≡ ranges-of (follow (datagram base-mode) s (from at)) =
+            ap (λ (m : ℕ). ranged 0 0 0 at (between at m) (ranges-of (times n (follow (sample base-mode depth-limit)) s (from (d .at))))) x ∙ sym (laid .1) in
+            let u : a ≡ end-of (follow (datagram base-mode) s (from at)) = x ∙ sym (laid .2) in
+            let m : b ≡ 0 + descriptor-words * size (ranges-of (follow (datagram base-mode) s (from at))) = y ∙ rw sizes (omega arith) in
+            let z : l″ ≡ write l 0 (rows (base + 0 / descriptor-words) nobody (ranges-of (follow (datagram base-mode) s (from at)))) =
+            own-last l base nobody 0 own-range (ranges-of (times n (follow (sample base-mode depth-limit)) s (from (d .at)))) k q
             ∙ ap (λ (o : Forest). write l 0 (rows (base + 0 / descriptor-words) nobody o)) t in
             λ j. record { at = u j; word = m j; store = z j }
 

@@ -9,9 +9,9 @@ use mir.Syntax.{w32, w64}
 use mir.Val.{Fits}
 use Rattle.reading.specs.Script.{Forest, Found}
 use Rattle.reading.specs.Cursor.{Place, Out, got, stop, follow}
-use Rattle.reading.specs.Layout.{datagram}
+use Rattle.reading.specs.Layout.{Mode, base as base-mode, datagram}
 use Rattle.reading.specs.Answer.{size, rows, from, nobody}
-use Rattle.reading.specs.Sizes.{descriptor-words}
+use Rattle.reading.specs.Sizes.{depth-limit, descriptor-words}
 use Rattle.reading.proofs.Items.{never}
 use Rattle.reading.proofs.Room.{thrifty-datagram, datagram-on}
 use Rattle.reading.proofs.Runs.{run-from, run-over, run-got, run-ends, run-stops}
@@ -33,48 +33,48 @@ use Rattle.store.proofs.Placing.{a-put, two-placed, at-is, word-is, store-is, p
 use Rattle.datagram.specs.Shown.{root, pen-at}
 
 -- ---- the first pass
-module _ (s : List ℕ) (c : Cursor) (k : ℕ) {j : Scanned} (i : scanned-out j ≡ counted k (follow datagram s (place c))) where
+module _ (mode : Mode) (s : List ℕ) (c : Cursor) (k : ℕ) {j : Scanned} (i : scanned-out j ≡ counted k (follow (datagram mode) s (place c))) where
   module _ {d : Cursor} {m : ℕ} (w : j ≡ scanned.Got d m) where
-    outcome : got m (place d) ≡ counted k (follow datagram s (place c))
+    outcome : got m (place d) ≡ counted k (follow (datagram mode) s (place c))
     outcome = rw w at i
 
     pub scanned-on : Scan s c k → Scan s d m
-    scanned-on g = scan-on datagram s c k i w g (record { is = thrifty-datagram 8 })
+    scanned-on g = scan-on (datagram mode) s c k i w g (record { is = thrifty-datagram mode depth-limit })
 
     pub scanned-less : (t : ℕ) → Scan s c k → c .at < length s → length s - c .at ≡ t → length s - d .at < t
     unfolding counted
-    scanned-less t g h e = go (follow datagram s (place c)) refl outcome
+    scanned-less t g h e = go (follow (datagram mode) s (place c)) refl outcome
       where
-        go : (o : Out Found) → follow datagram s (place c) ≡ o → got m (place d) ≡ counted k o → length s - d .at < t
+        go : (o : Out Found) → follow (datagram mode) s (place c) ≡ o → got m (place d) ≡ counted k o → length s - d .at < t
         go (got a q) f u =
             let x : place d ≡ q = cc in
             let y = ap (λ (r : Place). r .at) x in
-            let z = datagram-on 8 s (place c) (g .inside) f in
+            let z = datagram-on mode depth-limit s (place c) (g .inside) f in
             omega (arith, z .0, y, e, h)
         go (stop x a n) f u = never (sym u)
 
-    pub scanned-turn : {t : Out ℕ} → counted k (run-from s (place c)) ≡ t → c .at < length s → counted m (run-from s (place d)) ≡ t
-    scanned-turn e h = sym (run-got s (place c) k h (sym outcome)) ∙ e
+    pub scanned-turn : {t : Out ℕ} → counted k (run-from mode s (place c)) ≡ t → c .at < length s → counted m (run-from mode s (place d)) ≡ t
+    scanned-turn e h = sym (run-got mode s (place c) k h (sym outcome)) ∙ e
 
-  module _ {x : Outcome} (w : j ≡ scanned.Stop x) {t : Out ℕ} (e : counted k (run-from s (place c)) ≡ t) (h : c .at < length s) where
-    refused : refusal x ≡ counted k (follow datagram s (place c))
+  module _ {x : Outcome} (w : j ≡ scanned.Stop x) {t : Out ℕ} (e : counted k (run-from mode s (place c)) ≡ t) (h : c .at < length s) where
+    refused : refusal x ≡ counted k (follow (datagram mode) s (place c))
     refused = rw w at i
 
     pub scanned-ends : x .code ≡ 2 → got k (record { at = c .at; steps = x .steps }) ≡ t
-    scanned-ends z = sym (run-ends s (place c) k h (sym refused) z) ∙ e
+    scanned-ends z = sym (run-ends mode s (place c) k h (sym refused) z) ∙ e
 
     pub scanned-stops : (x .code ≡ 2 → ⊥) → refusal x ≡ t
-    scanned-stops z = sym (run-stops s (place c) k h (sym refused) z) ∙ e
+    scanned-stops z = sym (run-stops mode s (place c) k h (sym refused) z) ∙ e
 
-pub scanned-over : {t : Out ℕ} (s : List ℕ) (c : Cursor) (k : ℕ) → counted k (run-from s (place c)) ≡ t → length s ≤ c .at → got k (place c) ≡ t
+pub scanned-over : {t : Out ℕ} (mode : Mode) (s : List ℕ) (c : Cursor) (k : ℕ) → counted k (run-from mode s (place c)) ≡ t → length s ≤ c .at → got k (place c) ≡ t
 unfolding counted size
-scanned-over s c k e h =
-    let z : counted k (run-from s (place c)) ≡ got (k + 0) (place c) = ap (counted k) (run-over s (place c) h) in
+scanned-over mode s c k e h =
+    let z : counted k (run-from mode s (place c)) ≡ got (k + 0) (place c) = ap (counted k) (run-over mode s (place c) h) in
     let y : k ≡ k + 0 = omega arith in
     ap (λ (n : ℕ). got n (place c)) y ∙ sym z ∙ e
 
 -- ---- the second pass: one datagram, from a word on
-module _ (s l : List ℕ) (at w : ℕ) (g : Ready s l (pen-at w) (follow datagram s (from at))) where
+module _ (s l : List ℕ) (at w : ℕ) (g : Ready s l (pen-at w) (follow (datagram base-mode) s (from at))) where
   pub part-start : w ≤ length l
   part-start = omega (arith, g .room)
 
@@ -82,88 +82,88 @@ module _ (s l : List ℕ) (at w : ℕ) (g : Ready s l (pen-at w) (follow datagra
   part-index = omega (arith, g .few)
 
   module _ {i : ℕ} (u : i ≡ 0 + w / descriptor-words) where
-    pub part-ready : Ready s (take (length l - w) (drop w l)) (root i) (follow datagram s (from at))
+    pub part-ready : Ready s (take (length l - w) (drop w l)) (root i) (follow (datagram base-mode) s (from at))
     part-ready =
         let m : length (rest l w) ≡ length l - w = ap length (rest-is l w) ∙ length-drop w l in
         record { short = g .short; good = g .good; room = omega (arith, g .room, m); few = omega (arith, g .few) }
 
-    module _ {v : Written} {l′ : List ℕ} (e : written v l′ ≡ placed (root i) (follow datagram s (from at)) (take (length l - w) (drop w l))) where
-      more : v .word ≡ 0 + descriptor-words * size (ranges-of (follow datagram s (from at)))
+    module _ {v : Written} {l′ : List ℕ} (e : written v l′ ≡ placed (root i) (follow (datagram base-mode) s (from at)) (take (length l - w) (drop w l))) where
+      more : v .word ≡ 0 + descriptor-words * size (ranges-of (follow (datagram base-mode) s (from at)))
       more = word-is (root i) _ _ e
 
       pub part-more : Fits w64 (w + v .word)
       part-more = let y = more in record { fits = omega (arith, g .few) }
 
       module _ {l″ : List ℕ} (q : l″ ≡ take w l ++ (l′ ++ drop (length l - w) (drop w l))) where
-        joined : l″ ≡ write l w (rows (0 + w / descriptor-words) nobody (ranges-of (follow datagram s (from at))))
+        joined : l″ ≡ write l w (rows (0 + w / descriptor-words) nobody (ranges-of (follow (datagram base-mode) s (from at))))
         joined =
             let x : i + 0 / descriptor-words ≡ 0 + w / descriptor-words = omega arith in
-            let y : l′ ≡ write (rest l w) 0 (rows (0 + w / descriptor-words) nobody (ranges-of (follow datagram s (from at)))) =
-            store-is (root i) _ _ e ∙ ap (λ (m : ℕ). write (rest l w) 0 (rows m nobody (ranges-of (follow datagram s (from at))))) x in
-            q ∙ ap (λ (x : List ℕ). take w l ++ (x ++ drop (length l - w) (drop w l))) y ∙ write-rest l w (rows (0 + w / descriptor-words) nobody (ranges-of (follow datagram s (from at)))) part-start
+            let y : l′ ≡ write (rest l w) 0 (rows (0 + w / descriptor-words) nobody (ranges-of (follow (datagram base-mode) s (from at)))) =
+            store-is (root i) _ _ e ∙ ap (λ (m : ℕ). write (rest l w) 0 (rows m nobody (ranges-of (follow (datagram base-mode) s (from at))))) x in
+            q ∙ ap (λ (x : List ℕ). take w l ++ (x ++ drop (length l - w) (drop w l))) y ∙ write-rest l w (rows (0 + w / descriptor-words) nobody (ranges-of (follow (datagram base-mode) s (from at)))) part-start
 
         pub part-kept : length l″ ≡ length l
         part-kept = ap length joined ∙ write-length _ _ _
 
-        pub part-placed : a-put (v .at) (w + v .word) l″ ≡ placed (pen-at w) (follow datagram s (from at)) l
+        pub part-placed : a-put (v .at) (w + v .word) l″ ≡ placed (pen-at w) (follow (datagram base-mode) s (from at)) l
         unfolding placed
         part-placed =
             let a = at-is (root i) _ _ e in
-            let b : w + v .word ≡ w + descriptor-words * size (ranges-of (follow datagram s (from at))) = let y = more in omega arith in
+            let b : w + v .word ≡ w + descriptor-words * size (ranges-of (follow (datagram base-mode) s (from at))) = let y = more in omega arith in
             let c = joined in
             λ j. record { at = a j; word = b j; store = c j }
 
 -- ---- all of them
-module _ (s l : List ℕ) (cur end w : ℕ) (g : Ready s l (pen-at w) (run-from s (from cur))) (i : cur ≤ length s) (z : end ≡ end-of (run-from s (from cur))) where
-  pub run-all : (m : List ℕ) → end ≤ cur → placed (pen-at w) (run-from s (from cur)) l ≡ placed (pen-at 0) (run-from s (from 0)) m → l ≡ write m 0 (rows 0 nobody (ranges-of (run-from s (from 0))))
+module _ (s l : List ℕ) (cur end w : ℕ) (g : Ready s l (pen-at w) (run-from base-mode s (from cur))) (i : cur ≤ length s) (z : end ≡ end-of (run-from base-mode s (from cur))) where
+  pub run-all : (m : List ℕ) → end ≤ cur → placed (pen-at w) (run-from base-mode s (from cur)) l ≡ placed (pen-at 0) (run-from base-mode s (from 0)) m → l ≡ write m 0 (rows 0 nobody (ranges-of (run-from base-mode s (from 0))))
   unfolding placed rows
   run-all m h e =
-      let y = run-bare s cur i (g .good) (omega (arith, z)) in
+      let y = run-bare base-mode s cur i (g .good) (omega (arith, z)) in
       sym (write-none l (w)) ∙ ap (λ (f : Forest). write l (w) (rows (0 + w / descriptor-words) nobody f)) (sym y) ∙ ap (λ (p : Put). p .store) e
 
   module _ (h : cur < end) where
-    parts : Run-at s cur
-    parts = run-lies s cur i (g .good) (omega (arith, z))
+    parts : Run-at base-mode s cur
+    parts = run-lies base-mode s cur i (g .good) (omega (arith, z))
 
-    sizes : size (ranges-of (run-from s (from cur))) ≡ size (ranges-of (follow datagram s (from cur))) + size (ranges-of (run-from s (from (end-of (follow datagram s (from cur))))))
+    sizes : size (ranges-of (run-from base-mode s (from cur))) ≡ size (ranges-of (follow (datagram base-mode) s (from cur))) + size (ranges-of (run-from base-mode s (from (end-of (follow (datagram base-mode) s (from cur))))))
     sizes = ap size (parts .ranges) ∙ size-joined _ _
 
-    pub first-ready : Ready s l (pen-at w) (follow datagram s (from cur))
+    pub first-ready : Ready s l (pen-at w) (follow (datagram base-mode) s (from cur))
     first-ready =
         let k = sizes in
         record { short = g .short; good = parts .first; room = omega (arith, g .room); few = omega (arith, g .few) }
 
-    module _ {v : Written} {l′ : List ℕ} (e : written v l′ ≡ placed (pen-at w) (follow datagram s (from cur)) l) where
-      here : v .at ≡ end-of (follow datagram s (from cur))
+    module _ {v : Written} {l′ : List ℕ} (e : written v l′ ≡ placed (pen-at w) (follow (datagram base-mode) s (from cur)) l) where
+      here : v .at ≡ end-of (follow (datagram base-mode) s (from cur))
       here = at-is (pen-at w) _ l e
 
-      next : v .word ≡ w + descriptor-words * size (ranges-of (follow datagram s (from cur)))
+      next : v .word ≡ w + descriptor-words * size (ranges-of (follow (datagram base-mode) s (from cur)))
       next = word-is (pen-at w) _ l e
 
       pub next-less : (t : ℕ) → end - cur ≡ t → end - v .at < t
       unfolding end-of
       next-less t u =
-          let a = given (follow datagram s (from cur)) (parts .first) in
-          let b = datagram-on 8 s (from cur) i (a .is) in
+          let a = given (follow (datagram base-mode) s (from cur)) (parts .first) in
+          let b = datagram-on base-mode depth-limit s (from cur) i (a .is) in
           let c : v .at ≡ a .last .at = here ∙ ap end-of (a .is) in
           omega (arith, b .0, c, u, h)
 
       pub next-inside : v .at ≤ length s
-      next-inside = let f = forward datagram s cur i (parts .first) in let y = here in omega (arith, f .1, y)
+      next-inside = let f = forward (datagram base-mode) s cur i (parts .first) in let y = here in omega (arith, f .1, y)
 
-      pub next-end : end ≡ end-of (run-from s (from (v .at)))
-      next-end = z ∙ parts .end ∙ ap (λ (m : ℕ). end-of (run-from s (from m))) (sym here)
+      pub next-end : end ≡ end-of (run-from base-mode s (from (v .at)))
+      next-end = z ∙ parts .end ∙ ap (λ (m : ℕ). end-of (run-from base-mode s (from m))) (sym here)
 
-      pub next-ready : Ready s l′ (pen-at (v .word)) (run-from s (from (v .at)))
+      pub next-ready : Ready s l′ (pen-at (v .word)) (run-from base-mode s (from (v .at)))
       next-ready =
           let k = sizes in
           let y = next in
           let x = put-kept (pen-at w) _ l e in
           rw here (record { short = g .short; good = parts .rest; room = omega (arith, g .room); few = omega (arith, g .few) })
 
-      pub next-placed : {t : Put} → placed (pen-at w) (run-from s (from cur)) l ≡ t → placed (pen-at (v .word)) (run-from s (from (v .at))) l′ ≡ t
+      pub next-placed : {t : Put} → placed (pen-at w) (run-from base-mode s (from cur)) l ≡ t → placed (pen-at (v .word)) (run-from base-mode s (from (v .at))) l′ ≡ t
       unfolding placed
-      next-placed {t} u = rw here (two-placed 0 nobody w l (ranges-of (follow datagram s (from cur))) (ranges-of (run-from s (from (end-of (follow datagram s (from cur)))))) refl (parts .end) (parts .ranges) next (store-is (pen-at w) _ l e)) ∙ u
+      next-placed {t} u = rw here (two-placed 0 nobody w l (ranges-of (follow (datagram base-mode) s (from cur))) (ranges-of (run-from base-mode s (from (end-of (follow (datagram base-mode) s (from cur)))))) refl (parts .end) (parts .ranges) next (store-is (pen-at w) _ l e)) ∙ u
 
 pub ruleset running = (
   scanned-on,

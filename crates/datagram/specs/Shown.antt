@@ -4,7 +4,7 @@ use mathlib.Core.Path.{_≡_}
 use mathlib.Core.List.{List, [], _∷_}
 use Rattle.reading.specs.Script.{Value, number, Found}
 use Rattle.reading.specs.Cursor.{Out, got, stop, follow}
-use Rattle.reading.specs.Layout.{words, version, addr, datagram}
+use Rattle.reading.specs.Layout.{base as base-mode, words, version, addr, datagram}
 use Rattle.reading.specs.Answer as answer
 use Rattle.reading.specs.Answer.{from, nobody, header-of, no-header, refused}
 use Rattle.reading.proofs.Counts.{counted}
@@ -62,9 +62,9 @@ decoded r w = record {
 pub record Refuses (r : Decoded) (code at steps needed : ℕ) : Type 0 where
   pub leaves : (w : List ℕ) → decoded r w ≡ refused code at steps needed w
 
--- a datagram that was read up to e, with k descriptors
+-- a datagram that was read up to e, with k descriptors: what is read in any mode is read so in the base mode
 pub record Is-read (s : List ℕ) (e : Cursor) (k : ℕ) : Type 0 where
-  pub is : got k (place e) ≡ counted 0 (follow datagram s (from 0))
+  pub is : got k (place e) ≡ counted 0 (follow (datagram base-mode) s (from 0))
 
 unfoldable pub values-of : Out Found → List Value
 values-of (got a q) = a .values
@@ -72,7 +72,7 @@ values-of (stop c a n) = []
 
 -- it is accepted, with any store
 pub record Accepts (s : List ℕ) (r : Decoded) (e : Cursor) (k : ℕ) : Type 0 where
-  pub leaves : (w : List ℕ) → decoded r w ≡ record { code = 0; at = e .at; steps = e .steps; needed = k; head = header-of (values-of (follow datagram s (from 0))); store = w }
+  pub leaves : (w : List ℕ) → decoded r w ≡ record { code = 0; at = e .at; steps = e .steps; needed = k; head = header-of (values-of (follow (datagram base-mode) s (from 0))); store = w }
 
 -- the answer to a run, which has no header, with the store that it leaves
 abbrev pub ran : Answer → List ℕ → answer.Answer

@@ -1,11 +1,13 @@
 // One datagram, for any input and any store.
 ghost use mathlib.Core.Path.{_≡_};
 ghost use Rattle.reading.specs.Answer.{one};
+ghost use Rattle.layout.specs.Chain.{mode-of};
 ghost use Rattle.datagram.specs.Shown.{decoded, Refuses, Is-read, Accepts};
 use crate::header::version_at;
 use crate::one::put_datagram;
 use crate::one::scan_datagram;
 use layout::field;
+use layout::field::Mode;
 use layout::frames::Scanned;
 use store::DESCRIPTOR_WORDS;
 use xdr::Address;
@@ -89,13 +91,13 @@ impl Decoded {
 }
 
 // The store is written where code 0 is answered, and only then: the descriptors from its first word on.
-pub fn decode(s: &[u8], store: &mut [u32]) -> Decoded
-    ensures { λ r. ⌜ decoded r (now (store .exit)) ≡ one (now (s .entry)) (now (store .entry)) ⌝ }
+pub fn decode(s: &[u8], store: &mut [u32], mode: Mode) -> Decoded
+    ensures { λ r. ⌜ decoded r (now (store .exit)) ≡ one (mode-of mode) (now (s .entry)) (now (store .entry)) ⌝ }
 {
     if MAX_INPUT_SIZE < s.len() {
         return Decoded::refused(1, 0, 0, 0);
     }
-    match scan_datagram(s, Cursor { at: 0, steps: 0 }, 0) {
+    match scan_datagram(s, Cursor { at: 0, steps: 0 }, mode, 0) {
         Scanned::Stop(r) => Decoded::refused(r.code, r.at, r.steps, 0),
         Scanned::Got(e, k) => {
             if store.len() / DESCRIPTOR_WORDS < k {

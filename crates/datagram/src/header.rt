@@ -2,7 +2,7 @@
 ghost use mathlib.Core.Path.{_≡_};
 ghost use mathlib.Core.List.{[], _∷_};
 ghost use Rattle.reading.specs.Script.{number};
-ghost use Rattle.reading.specs.Layout.{version, addr, words};
+ghost use Rattle.reading.specs.Layout.{memo, version, addr, words};
 ghost use Rattle.reading.specs.Values.{zeros};
 ghost use Rattle.reading.specs.Answer.{layout-of};
 ghost use Rattle.xdr.specs.Shown.{Inside, Answers, refused};
@@ -100,7 +100,7 @@ impl Header {
 
     pub fn parse(p: Passed, s: &[u8]) -> Header
         requires { ⌜ Within (now s) p ⌝ }
-        ensures { λ r. ⌜ Answers (layout-of 0 0) (now (s .entry)) p (r .outcome) (header-fields r) ⌝ }
+        ensures { λ r. ⌜ Answers (layout-of memo 0 0) (now (s .entry)) p (r .outcome) (header-fields r) ⌝ }
     {
         let first = version(p, s);
         let passed = first.passed;

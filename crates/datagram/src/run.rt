@@ -4,18 +4,20 @@ ghost use Prim.Native.Nat.{_≤_};
 ghost use lib.ListN.{length};
 ghost use Rattle.reading.specs.Sizes.{longest-input};
 ghost use Rattle.reading.specs.Cursor.{follow};
-ghost use Rattle.reading.specs.Layout.{datagram};
+ghost use Rattle.reading.specs.Layout.{base as base-mode, datagram};
 ghost use Rattle.reading.specs.Answer.{from, nobody, rows, run};
 ghost use Rattle.reading.proofs.Counts.{counted};
 ghost use Rattle.reading.proofs.Places.{ranges-of, end-of};
 ghost use Rattle.reading.proofs.Runs.{run-from};
 ghost use Rattle.reading.proofs.Stored.{write};
+ghost use Rattle.layout.specs.Chain.{mode-of};
 ghost use Rattle.layout.specs.Scanned.{scanned-out};
 ghost use Rattle.store.specs.Written.{Ready, written, placed};
 ghost use Rattle.datagram.specs.Shown.{root, pen-at, ran};
 use crate::decode::Answer;
 use crate::one::put_datagram;
 use crate::one::scan_datagram;
+use layout::field::Mode;
 use layout::frames::Scanned;
 use store::DESCRIPTOR_WORDS;
 use store::Written;
@@ -24,14 +26,14 @@ use xdr::Cursor;
 use xdr::MAX_INPUT_SIZE;
 
 // The first pass. Code 2 ends the run where the datagram that it stops began.
-fn scan_run(s: &[u8]) -> Scanned
+fn scan_run(s: &[u8], mode: Mode) -> Scanned
     requires { ⌜ length (now s) ≤ longest-input ⌝ }
-    ensures { λ r. ⌜ scanned-out r ≡ counted 0 (run-from (now (s .entry)) (from 0)) ⌝ }
+    ensures { λ r. ⌜ scanned-out r ≡ counted 0 (run-from (mode-of mode) (now (s .entry)) (from 0)) ⌝ }
 {
     let mut cur = Cursor { at: 0, steps: 0 };
     let mut found = 0;
     while cur.at < s.len() {
-        match scan_datagram(s, cur, found) {
+        match scan_datagram(s, cur, mode, found) {
             Scanned::Stop(r) => {
                 if r.code == 2 {
                     return Scanned::Got(
@@ -56,8 +58,8 @@ fn scan_run(s: &[u8]) -> Scanned
 // One datagram of a run, whose first descriptor begins at a word: the rest of the store is lent to its writer.
 fn put_next(s: &[u8], at: usize, store: &mut [u32], word: usize) -> Written
     requires { ⌜ at ≤ length (now s) ⌝ }
-    requires { ⌜ Ready (now s) (now store) (pen-at word) (follow datagram (now s) (from at)) ⌝ }
-    ensures { λ r. ⌜ written r (now (store .exit)) ≡ placed (pen-at word) (follow datagram (now (s .entry)) (from at)) (now (store .entry)) ⌝ }
+    requires { ⌜ Ready (now s) (now store) (pen-at word) (follow (datagram base-mode) (now s) (from at)) ⌝ }
+    ensures { λ r. ⌜ written r (now (store .exit)) ≡ placed (pen-at word) (follow (datagram base-mode) (now (s .entry)) (from at)) (now (store .entry)) ⌝ }
 {
     let w = put_datagram(s, at, &mut store[word..], index_at(0, word));
     Written {
@@ -66,15 +68,15 @@ fn put_next(s: &[u8], at: usize, store: &mut [u32], word: usize) -> Written
     }
 }
 
-// The second pass, up to where the first one ended.
-fn put_run(s: &[u8], end: usize, store: &mut [u32])
-    requires { ⌜ Ready (now s) (now store) (root 0) (run-from (now s) (from 0)) ⌝ }
-    requires { ⌜ end ≡ end-of (run-from (now s) (from 0)) ⌝ }
-    ensures { λ r. ⌜ now (store .exit) ≡ write (now (store .entry)) 0 (rows 0 nobody (ranges-of (run-from (now (s .entry)) (from 0)))) ⌝ }
+// The second pass, over the bytes up to where the first one ended: there the run is the same in each mode.
+fn put_run(s: &[u8], store: &mut [u32])
+    requires { ⌜ Ready (now s) (now store) (root 0) (run-from base-mode (now s) (from 0)) ⌝ }
+    requires { ⌜ length (now s) ≡ end-of (run-from base-mode (now s) (from 0)) ⌝ }
+    ensures { λ r. ⌜ now (store .exit) ≡ write (now (store .entry)) 0 (rows 0 nobody (ranges-of (run-from base-mode (now (s .entry)) (from 0)))) ⌝ }
 {
     let mut cur = 0;
     let mut word = 0;
-    while cur < end {
+    while cur < s.len() {
         let w = put_next(s, cur, &mut *store, word);
         cur = w.at;
         word = w.word;
@@ -82,8 +84,8 @@ fn put_run(s: &[u8], end: usize, store: &mut [u32])
 }
 
 // The store is written where code 0 is answered, and only then: the descriptors from its first word on.
-pub fn decode_run(s: &[u8], store: &mut [u32]) -> Answer
-    ensures { λ r. ⌜ ran r (now (store .exit)) ≡ run (now (s .entry)) (now (store .entry)) ⌝ }
+pub fn decode_run(s: &[u8], store: &mut [u32], mode: Mode) -> Answer
+    ensures { λ r. ⌜ ran r (now (store .exit)) ≡ run (mode-of mode) (now (s .entry)) (now (store .entry)) ⌝ }
 {
     if MAX_INPUT_SIZE < s.len() {
         return Answer {
@@ -93,7 +95,7 @@ pub fn decode_run(s: &[u8], store: &mut [u32]) -> Answer
             needed: 0,
         };
     }
-    match scan_run(s) {
+    match scan_run(s, mode) {
         Scanned::Stop(r) => Answer {
             code: r.code,
             at: r.at,
@@ -109,7 +111,7 @@ pub fn decode_run(s: &[u8], store: &mut [u32]) -> Answer
                     needed: k,
                 };
             }
-            put_run(s, e.at, store);
+            put_run(&s[..e.at], store);
             Answer {
                 code: 0,
                 at: e.at,

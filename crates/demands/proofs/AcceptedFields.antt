@@ -5,7 +5,7 @@ use mathlib.Core.Path.{_≡_, sym, subst}
 use mathlib.Core.List.{List}
 use lib.ListN.{length, drop}
 use Rattle.reading.specs.Script.{Forest, Found}
-use Rattle.reading.specs.Layout.{only}
+use Rattle.reading.specs.Layout.{Mode, only}
 use Rattle.reading.specs.Sizes.{descriptor-words, depth-limit}
 use Rattle.reading.specs.Answer.{size, one, run}
 use Rattle.reading.proofs.Stands.{place}
@@ -19,19 +19,19 @@ use Rattle.demands.specs.DescriptorFields.{All-fields}
 use Rattle.demands.proofs.Fielded.{datagram-fields, run-fields}
 
 -- the fields of each descriptor in the store, by the ranges of the reading, or of the run
-module _ (s w : List ℕ) where
-  by-found : (a : Accepted a-datagram s w (one s w)) → All-fields s (a .found .ranges) (one s w .store)
+module _ (mode : Mode) (s w : List ℕ) where
+  by-found : (a : Accepted (a-datagram mode) s w (one mode s w)) → All-fields mode s (a .found .ranges) (one mode s w .store)
   by-found a =
-      subst (All-fields s (a .found .ranges)) (sym (a .answers .store))
-      (datagram-fields s (a .short) (a .found) (place (a .end) (a .items)) (drop (descriptor-words * size (a .found .ranges)) w) (given depth-limit s (a .reading .reading) (a .reading .shallow)))
+      subst (All-fields mode s (a .found .ranges)) (sym (a .answers .store))
+      (datagram-fields mode s (a .short) (a .found) (place (a .end) (a .items)) (drop (descriptor-words * size (a .found .ranges)) w) (given mode depth-limit s (a .reading .reading) (a .reading .shallow)))
 
-  pub one-fields : one s w .code ≡ 0 → {f : Found} {bytes items : ℕ} → Allowed 0 s f bytes items → All-fields s (f .ranges) (one s w .store)
-  one-fields z r = let a = accepted-reads one-reads s w z in subst (λ (f : Found). All-fields s (f .ranges) (one s w .store)) (one-whole one-reads s (a .reading) r .0) (by-found a)
+  pub one-fields : one mode s w .code ≡ 0 → {f : Found} {bytes items : ℕ} → Allowed mode 0 s f bytes items → All-fields mode s (f .ranges) (one mode s w .store)
+  one-fields z r = let a = accepted-reads (one-reads mode) s w z in subst (λ (f : Found). All-fields mode s (f .ranges) (one mode s w .store)) (one-whole (one-reads mode) s (a .reading) r .0) (by-found a)
 
-  by-ranges : (a : Accepted a-run s w (run s w)) → All-fields s (a .found) (run s w .store)
+  by-ranges : (a : Accepted (a-run mode) s w (run mode s w)) → All-fields mode s (a .found) (run mode s w .store)
   by-ranges a =
-      subst (All-fields s (a .found)) (sym (a .answers .store))
-      (run-fields s (a .short) (only (a .found)) (place (a .end) (a .items)) (drop (descriptor-words * size (a .found)) w) (length s) (run-out s (a .reading)))
+      subst (All-fields mode s (a .found)) (sym (a .answers .store))
+      (run-fields mode s (a .short) (only (a .found)) (place (a .end) (a .items)) (drop (descriptor-words * size (a .found)) w) (length s) (run-out mode s (a .reading)))
 
-  pub run-all-fields : run s w .code ≡ 0 → {g : Forest} {end n : ℕ} → Run s 0 g end n → All-fields s g (run s w .store)
-  run-all-fields z t = let a = accepted-reads run-reads s w z in subst (λ (g : Forest). All-fields s g (run s w .store)) (one-whole run-reads s (a .reading) t .0) (by-ranges a)
+  pub run-all-fields : run mode s w .code ≡ 0 → {g : Forest} {end n : ℕ} → Run mode s 0 g end n → All-fields mode s g (run mode s w .store)
+  run-all-fields z t = let a = accepted-reads (run-reads mode) s w z in subst (λ (g : Forest). All-fields mode s g (run mode s w .store)) (one-whole (run-reads mode) s (a .reading) t .0) (by-ranges a)

@@ -10,7 +10,7 @@ use lib.ListN.{length}
 use Rattle.reading.specs.Bytes.{be4, padded}
 use Rattle.reading.specs.Script.{number, four, sixteen, word, tested, block, Script}
 use Rattle.reading.specs.Cursor.{Place, got, stop, Reader, on, read-item, times, follow}
-use Rattle.reading.specs.Layout.{num, Field, plain, addr, opened, framed, pdu, flows, flow, samples, sample, header}
+use Rattle.reading.specs.Layout.{Mode, num, Field, plain, addr, opened, framed, pdu, flows, flow, samples, sample, header}
 use Rattle.reading.proofs.Items.{never, split, fixed-read}
 use Rattle.reading.proofs.Fields.{address-out, field-out, fields-out}
 use Rattle.reading.proofs.Frames.{word-read, frame-read}
@@ -41,13 +41,13 @@ aligned-framed kind depth body s p a q e =
     let f = frame-read kind depth body s p e in
     record { count = 2 + (f .span .count + 3) / 4; is = omega (arith, f .end) }
 
-pub aligned-flow : (limit left : ℕ) → Aligned (follow (flow limit left))
+pub aligned-flow : (mode : Mode) (limit left : ℕ) → Aligned (follow (flow mode limit left))
 unfolding flow follow
-aligned-flow limit zero = λ s p a q e. never e
-aligned-flow limit (suc left) = aligned-framed 2 (limit - left) (opened (flows (pdu (limit - left) (flow limit left))))
+aligned-flow mode limit zero = λ s p a q e. never e
+aligned-flow mode limit (suc left) = aligned-framed 2 (limit - left) (opened (flows mode (pdu (limit - left) (flow mode limit left))))
 
-pub aligned-sample : (limit : ℕ) → Aligned (follow (sample limit))
-aligned-sample limit = aligned-framed 1 0 (opened (samples limit))
+pub aligned-sample : (mode : Mode) (limit : ℕ) → Aligned (follow (sample mode limit))
+aligned-sample mode limit = aligned-framed 1 0 (opened (samples mode limit))
 
 pub aligned-times : (sc : Script) → Aligned (follow sc) → (n : ℕ) → Aligned (times n (follow sc))
 unfolding times

@@ -6,7 +6,7 @@ use mathlib.Core.List.{List, [], _∷_}
 use native.Mathlib.Omega.{arith}
 use Rattle.reading.specs.Numbers.{known}
 use Rattle.reading.specs.Script.{Span, Value, Found, Item, Script, give, refuse, here, item, within, repeat}
-use Rattle.reading.specs.Layout.{num, Field, plain, mac, addr, list, segments, address-of, run-of, field, fields}
+use Rattle.reading.specs.Layout.{Mode, num, Field, plain, mac, addr, list, segments, address-of, run-of, field, fields}
 use Rattle.reading.specs.Values.{alone}
 use Rattle.reading.specs.Answer.{one, run}
 use Rattle.reading.proofs.Faults.{both, test-code, fair-item, fair-field, fair, Coded, gives, refuses, stands, reads, opens, repeats}
@@ -94,8 +94,8 @@ pub layout-code : {o c i n : ℕ} {b : List ℕ} (l : List Field) → fair l ≡
 layout-code l e = fault-code (omega arith) (fields-to l e (λ vs. to-give))
 
 -- of a run that is refused: not the one that ends it
-run-fault-code : {s : List ℕ} {at c i n : ℕ} → Run-stops s at c i n → (2 ≤ c) × (c ≤ 8) × (c ≡ 2 → ⊥)
-run-fault-code (this h t z) = let k = fault-code (omega arith) (to-8 coded-datagram) t in (k .0, k .1, z)
+run-fault-code : {mode : Mode} {s : List ℕ} {at c i n : ℕ} → Run-stops mode s at c i n → (2 ≤ c) × (c ≤ 8) × (c ≡ 2 → ⊥)
+run-fault-code {mode} (this h t z) = let k = fault-code (omega arith) (to-8 (coded-datagram mode)) t in (k .0, k .1, z)
 run-fault-code (later f bytes items m d e t) = run-fault-code t
 
 -- ---- the tables, by their numbers
@@ -136,10 +136,10 @@ of-fields c h k l =
 
 -- ---- the calls
 
-pub one-coded : (s w : List ℕ) → known one-codes (one s w .code) ≡ true
+pub one-coded : (mode : Mode) (s w : List ℕ) → known one-codes (one mode s w .code) ≡ true
 unfolding known
-one-coded s w = by-code one-reads (λ c. known one-codes c ≡ true) s w refl refl refl (λ c i n t. let k = fault-code {m = 8} (omega arith) (to-8 coded-datagram) t in of-one c (omega (arith, k .1)))
+one-coded mode s w = by-code (one-reads mode) (λ c. known one-codes c ≡ true) s w refl refl refl (λ c i n t. let k = fault-code {m = 8} (omega arith) (to-8 (coded-datagram mode)) t in of-one c (omega (arith, k .1)))
 
-pub run-coded : (s w : List ℕ) → known run-codes (run s w .code) ≡ true
+pub run-coded : (mode : Mode) (s w : List ℕ) → known run-codes (run mode s w .code) ≡ true
 unfolding known
-run-coded s w = by-code run-reads (λ c. known run-codes c ≡ true) s w refl refl refl (λ c i n t. let k = run-fault-code t in of-run c (omega (arith, k .1)) (k .2))
+run-coded mode s w = by-code (run-reads mode) (λ c. known run-codes c ≡ true) s w refl refl refl (λ c i n t. let k = run-fault-code t in of-run c (omega (arith, k .1)) (k .2))

@@ -8,7 +8,7 @@ use Rattle.reading.specs.Bytes.{be4}
 use Rattle.reading.specs.Utf8.{utf8, longest-to, among}
 use Rattle.reading.specs.Numbers.{known, header-protocols}
 use Rattle.reading.specs.Cursor.{read-item, follow}
-use Rattle.reading.specs.Layout.{address-of, run-of, field, fields, last-number, opened, flows, flow, samples, datagram-to}
+use Rattle.reading.specs.Layout.{Mode, address-of, run-of, field, fields, last-number, opened, flows, flow, samples, datagram-to}
 use Rattle.reading.specs.Values.{valued, reading}
 use Rattle.reading.specs.Answer.{size, rows, header-of, no-header, Answer, Fields, stored, one, tried, datagrams, run, layout-of, answered, read}
 use Rattle.reading.specs.Sizes.{longest-input, descriptor-words}
@@ -54,23 +54,23 @@ too-deep =
 abbrev store : List ℕ
 store = replicate descriptor-words 165
 
-pub one-occur : Each (λ c. (s w : List ℕ) × (one s w .code ≡ c)) one-codes
+pub one-occur : (mode : Mode) → Each (λ c. (s w : List ℕ) × (one mode s w .code ≡ c)) one-codes
 unfolding be4 known header-protocols follow read-item address-of run-of field fields last-number opened flows flow samples datagram-to size rows header-of no-header stored one utf8 longest-to among
-one-occur =
-    also (p2, store, refl) (also (long .0, store, ap (λ (a : Answer). a .code) (long-refused one-reads (long .0) store (long .1))) (also ([], store, refl) (also (no-version, store, refl) (also (no-address, store, refl)
+one-occur mode =
+    also (p2, store, refl) (also (long .0, store, ap (λ (a : Answer). a .code) (long-refused (one-reads mode) (long .0) store (long .1))) (also ([], store, refl) (also (no-version, store, refl) (also (no-address, store, refl)
     (also (no-length, store, refl) (also (no-protocol, store, refl) (also (no-text, store, refl) (also (too-deep, store, refl) (also (p2, [], refl) none)))))))))
 
-pub run-occur : Each (λ c. (s w : List ℕ) × (run s w .code ≡ c)) run-codes
+pub run-occur : (mode : Mode) → Each (λ c. (s w : List ℕ) × (run mode s w .code ≡ c)) run-codes
 unfolding be4 known header-protocols follow read-item address-of run-of field fields last-number opened flows flow samples datagram-to size rows header-of no-header stored tried datagrams run utf8 longest-to among
-run-occur =
-    also (p2, store, refl) (also (long .0, store, ap (λ (a : Answer). a .code) (long-refused run-reads (long .0) store (long .1))) (also (no-version, store, refl) (also (no-address, store, refl)
+run-occur mode =
+    also (p2, store, refl) (also (long .0, store, ap (λ (a : Answer). a .code) (long-refused (run-reads mode) (long .0) store (long .1))) (also (no-version, store, refl) (also (no-address, store, refl)
     (also (no-length, store, refl) (also (no-protocol, store, refl) (also (no-text, store, refl) (also (too-deep, store, refl) (also (p2, [], refl) none))))))))
 
-pub field-occur : Each (λ c. (ak af : ℕ) × (s : List ℕ) × (k f start extent : ℕ) × (read ak af s k f start extent .code ≡ c)) field-codes
+pub field-occur : (mode : Mode) → Each (λ c. (ak af : ℕ) × (s : List ℕ) × (k f start extent : ℕ) × (read mode ak af s k f start extent .code ≡ c)) field-codes
 unfolding be4 known header-protocols follow read-item address-of run-of field fields last-number flows samples layout-of valued reading answered read utf8 longest-to among
-field-occur =
+field-occur mode =
     also (0, 0, p2, 0, 0, 0, 24, refl)
-    (also (0, 0, long .0, 0, 0, 0, 0, ap (λ (a : Fields). a .code) (fields-too-long 0 0 (long .0) 0 0 0 0 (long .1)))
+    (also (0, 0, long .0, 0, 0, 0, 0, ap (λ (a : Fields). a .code) (fields-too-long mode 0 0 (long .0) 0 0 0 0 (long .1)))
     (also (0, 0, p2, 0, 0, 0, 0, refl)
     (also (0, 0, no-version, 0, 0, 0, 4, refl)
     (also (0, 0, no-address, 0, 0, 0, 8, refl)

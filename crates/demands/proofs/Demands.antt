@@ -1,7 +1,7 @@
--- The three demands, said of what the public calls answer: `decode` answers `one s w` to the input s and the store w, `decode_run` answers
--- `run s w`. This is the file to open first: each theorem is one line, from the file that its heading names. Assumes nothing.
+-- The three demands, said of what the public calls answer: `decode` answers `one mode s w` to the input s and the store w, `decode_run` answers
+-- `run mode s w`, each for both modes. This is the file to open first: each theorem is one line, from the file that its heading names. Assumes nothing.
 use Prim.Native.Nat.{ℕ, suc, _+_, _*_, _/_, _≤_, _<_}
-use mathlib.Core.Path.{_≡_, sym, subst}
+use mathlib.Core.Path.{_≡_, sym, ap, subst}
 use mathlib.Core.Logic.{_⊎_, _↔_}
 use mathlib.Core.Bool.{true}
 use mathlib.Core.List.{List, _++_}
@@ -10,7 +10,7 @@ use Rattle.reading.specs.Utf8.{utf8, Longest}
 use Rattle.reading.specs.Numbers.{known}
 use Rattle.reading.specs.Script.{Value, Forest, Found, Script}
 use Rattle.reading.specs.Grammar.{Opaque, Many, Is}
-use Rattle.reading.specs.Layout.{Field, any-word, segment, datagram-to, datagram}
+use Rattle.reading.specs.Layout.{Mode, memo, base, Field, any-word, segment, datagram-to, datagram}
 use Rattle.reading.specs.Sizes.{longest-input, descriptor-words, depth-limit}
 use Rattle.reading.specs.Answer.{nobody, size, room, no-header, Answer, refused, one, run, Fields, read, Listed, list-word, segment-at, payload}
 use Rattle.demands.specs.Depths.{Shallow}
@@ -35,6 +35,7 @@ use Rattle.demands.proofs.Pads.{pads-free}
 use Rattle.demands.proofs.PadFields.{pads-free-fields}
 use Rattle.demands.specs.Nested.{end, last, Inside, Byte-of, row, all-of, whole-of, Under}
 use Rattle.demands.proofs.Placed.{under-inside, together}
+use Rattle.demands.proofs.Modes.{other-fields, same-answer, with-steps, run-up-to, run-to-end}
 use Rattle.demands.specs.FieldsItemised.{Fields-reading, Fields-itemised, Fields-read}
 use Rattle.demands.proofs.FieldsItemised.{fields-itemised, itemised-only, fields-accepted, fields-coded, fields-quartered, one-fields-reading}
 use Rattle.demands.specs.Calls.{Call, Public}
@@ -49,7 +50,7 @@ use Rattle.demands.proofs.Characters.{test-by-rules, rules-by-test}
 use Rattle.demands.proofs.IllFormed.{well-before, none-longer, no-char-there}
 
 -- ==== of both calls: of `decode` the subject t is one datagram, of `decode_run` it is a run of them
-module _ {t : Subject} {c : Call} (p : Public t c) where
+module _ {mode : Mode} {t : Subject} {c : Call} (p : Public mode t c) where
   -- ---- demands 2 and 3 (`Demanded`; proved in `Itemised`, of `decode` by `Accepted`, of `decode_run` by `Tried` and `RunItemised`): within the limit and
   -- with a store for a quarter of the length, code 0 exactly where the grammar reads the input
   pub accepted-exactly : Accepts-exactly t c
@@ -68,7 +69,7 @@ module _ {t : Subject} {c : Call} (p : Public t c) where
   accepted-alike f = accepted-only (reads p)
 
 -- for every input and every store
-module _ {t : Subject} {c : Call} (p : Public t c) (s w : List ℕ) where
+module _ {mode : Mode} {t : Subject} {c : Call} (p : Public mode t c) (s w : List ℕ) where
   -- ---- demand 1 (`Kept`): a refusal leaves every store word, shows a header of zeros, and needs no descriptors but for want of room
   pub refusal-keeps : (c s w .code ≡ 0 → ⊥) → c s w .store ≡ w
   refusal-keeps = kept (reads p) s w .refused-store
@@ -197,36 +198,36 @@ module _ {t : Subject} {c : Call} (p : Public t c) (s w : List ℕ) where
   record-not-looked-at u = eight-unseen (reads p) (unseen p) s u w
 
 -- ==== one datagram
-module _ (s w : List ℕ) where
+module _ (mode : Mode) (s w : List ℕ) where
   -- ---- demand 2 (`Limit`): no input has two readings, however deep
-  pub only-reading : {f g : Found} {n m k l : ℕ} → Reading 0 s f n k → Reading 0 s g m l → (f ≡ g) × (n ≡ m) × (k ≡ l)
-  only-reading = one-reading s
+  pub only-reading : {f g : Found} {n m k l : ℕ} → Reading mode 0 s f n k → Reading mode 0 s g m l → (f ≡ g) × (n ≡ m) × (k ≡ l)
+  only-reading = one-reading mode s
 
   -- the fields of each descriptor that is read here (`Fielded`): field reading gives the values that the grammar reads at the start of its range, with
   -- which it reads, behind them, what this reading has inside the range
-  pub fields-are-read : one s w .code ≡ 0 → {f : Found} {bytes items : ℕ} → Allowed 0 s f bytes items → All-fields s (f .ranges) (one s w .store)
-  fields-are-read = one-fields s w
+  pub fields-are-read : one mode s w .code ≡ 0 → {f : Found} {bytes items : ℕ} → Allowed mode 0 s f bytes items → All-fields mode s (f .ranges) (one mode s w .store)
+  fields-are-read = one-fields mode s w
 
   -- ---- demand 3 (`Owned`): each item that is a step owns four bytes that no other owns; there are as many as steps, and the four bytes from the first
   -- of each on are apart, and in the input
-  pub steps-own-bytes : (at : List ℕ) × Counted s at × Own 0 (length s) (one s w .steps) at
-  steps-own-bytes = one-owns s w
+  pub steps-own-bytes : (at : List ℕ) × Counted mode s at × Own 0 (length s) (one mode s w .steps) at
+  steps-own-bytes = one-owns mode s w
 
   -- ---- the code is one of those of the rules (docs/RULES.md, 5; `Codes`)
-  pub code-is-listed : known one-codes (one s w .code) ≡ true
-  code-is-listed = one-coded s w
+  pub code-is-listed : known one-codes (one mode s w .code) ≡ true
+  code-is-listed = one-coded mode s w
 
   -- ---- bytes that do not matter (`Pads`): of an input s that has a reading, change what the pads of its opaques and strings hold, and what is behind
   -- its end, and how long that is: the answer is the same, whatever the store
-  pub pads-do-not-matter : (t : List ℕ) {f : Found} {bytes items : ℕ} (r : Allowed 0 s f bytes items) → length s ≤ longest-input → length t ≤ longest-input → Same-but-pads r t → one t w ≡ one s w
-  pads-do-not-matter t = pads-free s t w
+  pub pads-do-not-matter : (t : List ℕ) {f : Found} {bytes items : ℕ} (r : Allowed mode 0 s f bytes items) → length s ≤ longest-input → length t ≤ longest-input → Same-but-pads mode r t → one mode t w ≡ one mode s w
+  pads-do-not-matter t = pads-free mode s t w
 
   -- nor to field reading (`PadFields`): whatever fields are asked for of a descriptor of s, they are answered of that input as of s
-  pub pads-do-not-matter-to-fields : (t : List ℕ) {f : Found} {bytes items : ℕ} (r : Allowed 0 s f bytes items) → one s w .code ≡ 0 → length t ≤ longest-input → Same-but-pads r t
-      → (i : ℕ) → i < one s w .needed → (ak af : ℕ)
-      → let d = range (one s w .store) i in
-      read ak af t (d .kind) (d .format) (d .span .start) (d .span .count) ≡ read ak af s (d .kind) (d .format) (d .span .start) (d .span .count)
-  pads-do-not-matter-to-fields t = pads-free-fields s t w
+  pub pads-do-not-matter-to-fields : (t : List ℕ) {f : Found} {bytes items : ℕ} (r : Allowed mode 0 s f bytes items) → one mode s w .code ≡ 0 → length t ≤ longest-input → Same-but-pads mode r t
+      → (i : ℕ) → i < one mode s w .needed → (ak af : ℕ)
+      → let d = range (one mode s w .store) i in
+      read mode ak af t (d .kind) (d .format) (d .span .start) (d .span .count) ≡ read mode ak af s (d .kind) (d .format) (d .span .start) (d .span .count)
+  pads-do-not-matter-to-fields t = pads-free-fields mode s t w
 
 -- the pad of an opaque or a string that starts at o, in a dump: behind its length word and the bytes x that this counts, none of which is in it, up to
 -- the end of the opaque
@@ -234,39 +235,61 @@ pub pad-in-a-dump : {x u : List ℕ} (o : ℕ) (q : Opaque x u) (i : ℕ) → In
 pad-in-a-dump = in-a-dump
 
 -- ==== a run (`Tries` says what a run is by the grammar)
-module _ (s w : List ℕ) where
-  pub run-fields-are-read : run s w .code ≡ 0 → {g : Forest} {end n : ℕ} → Run s 0 g end n → All-fields s g (run s w .store)
-  run-fields-are-read = run-all-fields s w
+module _ (mode : Mode) (s w : List ℕ) where
+  pub run-fields-are-read : run mode s w .code ≡ 0 → {g : Forest} {end n : ℕ} → Run mode s 0 g end n → All-fields mode s g (run mode s w .store)
+  run-fields-are-read = run-all-fields mode s w
 
-  pub run-steps-own-bytes : (at : List ℕ) × Run-counted s at × Own 0 (length s) (run s w .steps) at
-  run-steps-own-bytes = run-owns s w
+  pub run-steps-own-bytes : (at : List ℕ) × Run-counted mode s at × Own 0 (length s) (run mode s w .steps) at
+  run-steps-own-bytes = run-owns mode s w
 
   -- the code is one of those of the rules, and never 2 (`Codes`)
-  pub run-code-is-listed : known run-codes (run s w .code) ≡ true
-  run-code-is-listed = run-coded s w
+  pub run-code-is-listed : known run-codes (run mode s w .code) ≡ true
+  run-code-is-listed = run-coded mode s w
+
+-- ==== the two modes (`Modes`)
+module _ (s w : List ℕ) where
+  -- what is accepted with addresses of eight bytes is accepted with addresses of six, and the answer is the same: position, steps, header and descriptors
+  pub memo-then-base : one memo s w .code ≡ 0 → one base s w ≡ one memo s w
+  memo-then-base = same-answer s w
+
+  -- so where both modes accept, the steps are the same
+  pub both-same-steps : one memo s w .code ≡ 0 → one base s w .code ≡ 0 → one base s w .steps ≡ one memo s w .steps
+  both-same-steps h k = ap (λ (a : Answer). a .steps) (same-answer s w h)
+
+  -- a run, which a datagram that is cut ends: it is the base mode's run over the bytes up to where it ended, but for the steps of what was cut
+  pub run-memo-then-base : run memo s w .code ≡ 0 → (n : ℕ) × (run base (take (run memo s w .at) s) w ≡ with-steps n (run memo s w))
+  run-memo-then-base = run-up-to memo s w
+
+  -- and where all of the input was read, the answer is the same
+  pub run-to-end-alike : run memo s w .code ≡ 0 → run memo s w .at ≡ length s → run base s w ≡ run memo s w
+  run-to-end-alike = run-to-end memo s w
+
+-- the fields of every descriptor but a sampled Ethernet record's are the same
+pub other-fields-alike : (ak af : ℕ) → (ak ≡ 2 → af ≡ 2 → ⊥) → (s : List ℕ) (k f start extent : ℕ) → read base ak af s k f start extent ≡ read memo ak af s k f start extent
+other-fields-alike = other-fields
 
 -- ==== field reading (`FieldsItemised`), of a descriptor of this kind, format and range that is asked for the fields of another kind and format
-module _ (ak af : ℕ) (s : List ℕ) (k f start extent : ℕ) where
+module _ (mode : Mode) (ak af : ℕ) (s : List ℕ) (k f start extent : ℕ) where
   -- the answer is one of five, too long, a range that passes the input, another kind or format, stopped after so many items, or read by the grammar;
   -- and no other answer is one of them
-  pub fields-read-exactly : (a : Fields) → (a ≡ read ak af s k f start extent) ↔ Fields-itemised ak af s k f start extent a
-  fields-read-exactly a = (λ e. subst (Fields-itemised ak af s k f start extent) (sym e) (fields-itemised ak af s k f start extent), itemised-only ak af s k f start extent)
+  pub fields-read-exactly : (a : Fields) → (a ≡ read mode ak af s k f start extent) ↔ Fields-itemised mode ak af s k f start extent a
+  fields-read-exactly a = (λ e. subst (Fields-itemised mode ak af s k f start extent) (sym e) (fields-itemised mode ak af s k f start extent), itemised-only mode ak af s k f start extent)
 
   -- code 0 exactly where the grammar reads the fields asked for, from the start of the range, held to it
-  pub fields-accepted-exactly : (read ak af s k f start extent .code ≡ 0) ↔ ((vs : List Value) × (bytes items : ℕ) × Fields-read ak af s k f start extent vs bytes items)
-  fields-accepted-exactly = fields-accepted ak af s k f start extent
+  pub fields-accepted-exactly : (read mode ak af s k f start extent .code ≡ 0) ↔ ((vs : List Value) × (bytes items : ℕ) × Fields-read mode ak af s k f start extent vs bytes items)
+  fields-accepted-exactly = fields-accepted mode ak af s k f start extent
 
   -- the code is one of those of the rules, and never 8 or 9
-  pub fields-code-is-listed : known field-codes (read ak af s k f start extent .code) ≡ true
-  fields-code-is-listed = fields-coded ak af s k f start extent
+  pub fields-code-is-listed : known field-codes (read mode ak af s k f start extent .code) ≡ true
+  fields-code-is-listed = fields-coded mode ak af s k f start extent
 
   -- four bytes of the range for each step, accepted or refused
-  pub fields-steps-bounded : 4 * read ak af s k f start extent .steps ≤ extent
-  fields-steps-bounded = fields-quartered ak af s k f start extent
+  pub fields-steps-bounded : 4 * read mode ak af s k f start extent .steps ≤ extent
+  fields-steps-bounded = fields-quartered mode ak af s k f start extent
 
   -- and each step owns four of them that no other owns (`Owned`)
-  pub fields-steps-own-bytes : (at : List ℕ) × Fields-counted ak af s k f start extent at × Own start (start + extent) (read ak af s k f start extent .steps) at
-  fields-steps-own-bytes = fields-own ak af s k f start extent
+  pub fields-steps-own-bytes : (at : List ℕ) × Fields-counted mode ak af s k f start extent at × Own start (start + extent) (read mode ak af s k f start extent .steps) at
+  fields-steps-own-bytes = fields-own mode ak af s k f start extent
 
 -- no bytes have two readings of a layout
 pub only-fields-reading : (l : List Field) (start : ℕ) (b : List ℕ) {vs us : List Value} {n m i j : ℕ} → Fields-reading l start b vs n i → Fields-reading l start b us m j
@@ -274,14 +297,14 @@ pub only-fields-reading : (l : List Field) (start : ℕ) (b : List ℕ) {vs us :
 only-fields-reading = one-fields-reading
 
 -- ==== each code of a call's table is answered to some input (`CodesOccur`)
-pub codes-occur : Each (λ c. (s w : List ℕ) × (one s w .code ≡ c)) one-codes
-codes-occur = one-occur
+pub codes-occur : (mode : Mode) → Each (λ c. (s w : List ℕ) × (one mode s w .code ≡ c)) one-codes
+codes-occur mode = one-occur mode
 
-pub run-codes-occur : Each (λ c. (s w : List ℕ) × (run s w .code ≡ c)) run-codes
-run-codes-occur = run-occur
+pub run-codes-occur : (mode : Mode) → Each (λ c. (s w : List ℕ) × (run mode s w .code ≡ c)) run-codes
+run-codes-occur mode = run-occur mode
 
-pub field-codes-occur : Each (λ c. (ak af : ℕ) × (s : List ℕ) × (k f start extent : ℕ) × (read ak af s k f start extent .code ≡ c)) field-codes
-field-codes-occur = field-occur
+pub field-codes-occur : (mode : Mode) → Each (λ c. (ak af : ℕ) × (s : List ℕ) × (k f start extent : ℕ) × (read mode ak af s k f start extent .code ≡ c)) field-codes
+field-codes-occur mode = field-occur mode
 
 -- ==== what is answered as start and count (`Parts`)
 module _ (s : List ℕ) where
@@ -309,8 +332,8 @@ module _ (s : List ℕ) where
   segments-one-by-one = first-segment s
 
 -- ==== the grammar: it knows no limit of depth (`Limit`), and its strings are RFC 3629's (`Characters`, by `Abnf`)
-pub depth-is-the-limit : (o : ℕ) (b : List ℕ) (f : Found) (k : ℕ) → ((n : ℕ) × Is (datagram-to n) o b f k × Shallow depth-limit (f .ranges)) ↔ Is datagram o b f k
-depth-is-the-limit o b f k = (λ (n, i, z). same-reading n depth-limit o b f k i z, λ i. (depth-limit, i, no-deeper depth-limit o b f k i))
+pub depth-is-the-limit : (mode : Mode) (o : ℕ) (b : List ℕ) (f : Found) (k : ℕ) → ((n : ℕ) × Is (datagram-to mode n) o b f k × Shallow depth-limit (f .ranges)) ↔ Is (datagram mode) o b f k
+depth-is-the-limit mode o b f k = (λ (n, i, z). same-reading mode n depth-limit o b f k i z, λ i. (depth-limit, i, no-deeper mode depth-limit o b f k i))
 
 pub strings-are-utf8 : (s : List ℕ) → (utf8 s ≡ true) ↔ UTF8-octets s
 strings-are-utf8 s = (test-by-rules s, λ t. rules-by-test t)
@@ -335,34 +358,34 @@ module _ {x : List ℕ} {n : ℕ} (l : Longest x n) where
   ill-formed-there = no-char-there l
 
 -- ==== the impostors (`Impostors`): each falls to the demand that the rules name for it (docs/RULES.md, R14.4)
-module _ (f : Call) where
+module _ (mode : Mode) (f : Call) where
   -- "exactly when" shuts out a decoder that refuses all, and one that answers P2 always
-  pub not-refuses-all : Accepts-exactly a-datagram f → ((s w : List ℕ) → f s w .code ≡ 0 → ⊥) → ⊥
-  not-refuses-all = refuses-all f
+  pub not-refuses-all : Accepts-exactly (a-datagram mode) f → ((s w : List ℕ) → f s w .code ≡ 0 → ⊥) → ⊥
+  not-refuses-all = refuses-all mode f
 
-  pub not-answers-p2 : Accepts-exactly a-datagram f → ((s w : List ℕ) → f s w ≡ f p2 w) → ⊥
-  not-answers-p2 = answers-p2 f
+  pub not-answers-p2 : Accepts-exactly (a-datagram mode) f → ((s w : List ℕ) → f s w ≡ f p2 w) → ⊥
+  not-answers-p2 = answers-p2 mode f
 
   -- "descriptors are that reading" shuts out one that accepts just so, and writes no descriptor
-  pub not-writes-nothing : Accepts-exactly a-datagram f → Answers-reading a-datagram f → ((s w : List ℕ) → f s w .store ≡ w) → ⊥
-  not-writes-nothing = writes-nothing f
+  pub not-writes-nothing : Accepts-exactly (a-datagram mode) f → Answers-reading (a-datagram mode) f → ((s w : List ℕ) → f s w .store ≡ w) → ⊥
+  not-writes-nothing = writes-nothing mode f
 
   -- the items of the reading shut out one that meets demand 2, and makes its step count of the input's length, the code, the position and the descriptors
-  pub not-own-steps : Accepts-exactly a-datagram f → Answers-reading a-datagram f → Counts-items a-datagram f
+  pub not-own-steps : Accepts-exactly (a-datagram mode) f → Answers-reading (a-datagram mode) f → Counts-items (a-datagram mode) f
       → (g : ℕ → ℕ → ℕ → ℕ → ℕ) → ((s w : List ℕ) → f s w .steps ≡ g (length s) (f s w .code) (f s w .at) (f s w .needed)) → ⊥
-  not-own-steps = own-steps f
+  not-own-steps = own-steps mode f
 
   -- "exactly when", of a run, shuts out one that is made of its first datagram's answer, by a call d that meets the demands, and the input's length
-  pub not-run-invents : Accepts-exactly a-run f → (d : Call) → Accepts-exactly a-datagram d → Answers-reading a-datagram d → Counts-items a-datagram d
+  pub not-run-invents : Accepts-exactly (a-run mode) f → (d : Call) → Accepts-exactly (a-datagram mode) d → Answers-reading (a-datagram mode) d → Counts-items (a-datagram mode) d
       → (g : Answer → ℕ → List ℕ → Answer) → ((s w : List ℕ) → f s w ≡ g (d s w) (length s) w) → ⊥
-  not-run-invents = run-invents f
+  not-run-invents = run-invents mode f
 
 -- and to that alone: `decode` with code 2 always, with the store as it was, or with 0 steps meets the other two
-pub refuser-meets-the-others : Answers-reading a-datagram refuser × Counts-items a-datagram refuser
-refuser-meets-the-others = refuser-else
+pub refuser-meets-the-others : (mode : Mode) → Answers-reading (a-datagram mode) (refuser mode) × Counts-items (a-datagram mode) (refuser mode)
+refuser-meets-the-others mode = refuser-else mode
 
-pub storeless-meets-the-others : Accepts-exactly a-datagram storeless × Counts-items a-datagram storeless
-storeless-meets-the-others = storeless-else
+pub storeless-meets-the-others : (mode : Mode) → Accepts-exactly (a-datagram mode) (storeless mode) × Counts-items (a-datagram mode) (storeless mode)
+storeless-meets-the-others mode = storeless-else mode
 
-pub stepless-meets-the-others : Accepts-exactly a-datagram stepless × Answers-reading a-datagram stepless
-stepless-meets-the-others = stepless-else
+pub stepless-meets-the-others : (mode : Mode) → Accepts-exactly (a-datagram mode) (stepless mode) × Answers-reading (a-datagram mode) (stepless mode)
+stepless-meets-the-others mode = stepless-else mode

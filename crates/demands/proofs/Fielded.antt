@@ -16,7 +16,7 @@ use Rattle.reading.specs.Numbers.{known}
 use Rattle.reading.specs.Script.{Value, Range, Forest, Found, nothing, Script, give}
 use Rattle.reading.specs.Cursor.{Place, got, follow}
 use Rattle.reading.specs.Grammar.{Is}
-use Rattle.reading.specs.Layout.{Row, fixed-rows, pdu, flows, flow, counters, samples, datagram}
+use Rattle.reading.specs.Layout.{Mode, memo, Row, fixed-rows, pdu, flows, flow, counters, samples, datagram}
 use Rattle.reading.specs.Sizes.{longest-input, depth-limit}
 use Rattle.reading.specs.Values.{alone}
 use Rattle.reading.specs.Answer.{from, nobody, rows, datagrams, layout-of}
@@ -56,8 +56,8 @@ has-fields-is zero f = go (eqb f 0)
     go : (b : Bool) → (b or false) ≡ b
     go true = refl
     go false = refl
-has-fields-is (suc zero) f = has-known (samples depth-limit) f
-has-fields-is (suc (suc zero)) f = has-known (flows (give nothing)) f
+has-fields-is (suc zero) f = has-known (samples memo depth-limit) f
+has-fields-is (suc (suc zero)) f = has-known (flows memo (give nothing)) f
 has-fields-is (suc (suc (suc zero))) f = has-known (fixed-rows counters) f
 has-fields-is (suc (suc (suc (suc k)))) f = refl
 
@@ -65,26 +65,26 @@ more-is : (rows : List Row) (f : ℕ) → more-at rows f ≡ more-of rows f
 more-is [] f = refl
 more-is (r ∷ rest) f = ap (λ (m : List Value → Script). cond (eqb (r .format) f) (r .more) m) (more-is rest f)
 
-follows-is : (kind format depth : ℕ) (vs : List Value) → script-behind kind format depth vs ≡ follows kind format depth vs
+follows-is : (mode : Mode) (kind format depth : ℕ) (vs : List Value) → script-behind mode kind format depth vs ≡ follows mode kind format depth vs
 unfolding script-behind follows
-follows-is zero f d vs = refl
-follows-is (suc zero) f d vs = ap (λ (m : List Value → Script). m vs) (more-is (samples depth-limit) f)
-follows-is (suc (suc zero)) f d vs = ap (λ (m : List Value → Script). m vs) (more-is (flows (pdu d (flow depth-limit (depth-limit - d)))) f)
-follows-is (suc (suc (suc zero))) f d vs = ap (λ (m : List Value → Script). m vs) (more-is (fixed-rows counters) f)
-follows-is (suc (suc (suc (suc k)))) f d vs = refl
+follows-is mode zero f d vs = refl
+follows-is mode (suc zero) f d vs = ap (λ (m : List Value → Script). m vs) (more-is (samples mode depth-limit) f)
+follows-is mode (suc (suc zero)) f d vs = ap (λ (m : List Value → Script). m vs) (more-is (flows mode (pdu d (flow mode depth-limit (depth-limit - d)))) f)
+follows-is mode (suc (suc (suc zero))) f d vs = ap (λ (m : List Value → Script). m vs) (more-is (fixed-rows counters) f)
+follows-is mode (suc (suc (suc (suc k)))) f d vs = refl
 
 among-stands : {r : Range} {inner g : Forest} → Among r inner g → Stands-in r inner g
 among-stands this = here-it
 among-stands (inside m) = in-it (among-stands m)
 among-stands (later m) = behind-it (among-stands m)
 
-module _ (s : List ℕ) (g : Forest) (r : Range) where
+module _ (mode : Mode) (s : List ℕ) (g : Forest) (r : Range) where
   abbrev own : Script
-  own = alone (layout-of (r .kind) (r .format))
+  own = alone (layout-of mode (r .kind) (r .format))
 
-  fields-from : {inner : Forest} → Among r inner g → (a : Read-as s r inner)
+  fields-from : {inner : Forest} → Among r inner g → (a : Read-as mode s r inner)
       → Read (Is own) (up-to s r) (from (r .span .start)) (only-values (a .values)) (a .holds .next)
-      → Read (Is (script-behind (r .kind) (r .format) (r .depth) (a .values))) (up-to s r) (a .holds .next) (a .holds .found) (a .holds .last) → Fields-are s g r
+      → Read (Is (script-behind mode (r .kind) (r .format) (r .depth) (a .values))) (up-to s r) (a .holds .next) (a .holds .found) (a .holds .last) → Fields-are mode s g r
   fields-from {inner} m a f t =
       let x = r .span .start in
       let z : a .holds .next ≡ place (x + length (f .read)) (f .items) = λ i. record { at = f .at i; steps = (f .steps ∙ zero-add (f .items)) i } in
@@ -103,32 +103,32 @@ module _ (s : List ℕ) (g : Forest) (r : Range) where
         found = a .holds .found;
         more = t .items;
         holds =
-            subst (λ (c : Script). Is c (x + length (f .read)) (t .read) (a .holds .found) (t .items)) (follows-is (r .kind) (r .format) (r .depth) (a .values))
-            (subst (λ (j : ℕ). Is (script-behind (r .kind) (r .format) (r .depth) (a .values)) j (t .read) (a .holds .found) (t .items)) (f .at) (t .is));
+            subst (λ (c : Script). Is c (x + length (f .read)) (t .read) (a .holds .found) (t .items)) (follows-is mode (r .kind) (r .format) (r .depth) (a .values))
+            (subst (λ (j : ℕ). Is (script-behind mode (r .kind) (r .format) (r .depth) (a .values)) j (t .read) (a .holds .found) (t .items)) (f .at) (t .is));
         ranges = a .holds .ranges;
       }
 
-  fields-are : {inner : Forest} → Among r inner g → Read-as s r inner → Fields-are s g r
+  fields-are : {inner : Forest} → Among r inner g → Read-as mode s r inner → Fields-are mode s g r
   unfolding follow
   fields-are m a =
       let x = r .span .start in
       let l : length (up-to s r) ≡ x + r .span .count = length-take-le (x + r .span .count) s (a .holds .fields .lies) in
-      let e : follow own (up-to s r) (from x) ≡ got (only-values (a .values)) (a .holds .next) = fields-then (layout-of (r .kind) (r .format)) _ (up-to s r) (from x) ∙ rw (a .holds .fields .reads) in
+      let e : follow own (up-to s r) (from x) ≡ got (only-values (a .values)) (a .holds .next) = fields-then (layout-of mode (r .kind) (r .format)) _ (up-to s r) (from x) ∙ rw (a .holds .fields .reads) in
       let f = sound own (up-to s r) (from x) (only-values (a .values)) (a .holds .next) (omega (arith, l)) e in
       fields-from m a f
-      (sound (script-behind (r .kind) (r .format) (r .depth) (a .values)) (up-to s r) (a .holds .next) (a .holds .found) (a .holds .last) (rw (f .at) (f .stands .fits)) (a .holds .rest))
+      (sound (script-behind mode (r .kind) (r .format) (r .depth) (a .values)) (up-to s r) (a .holds .next) (a .holds .found) (a .holds .last) (rw (f .at) (f .stands .fits)) (a .holds .rest))
 
 -- each descriptor of a store in which the rows of g stand, if it has fields
-each : (s : List ℕ) (g : Forest) (rest : List ℕ) → ((r : Range) (inner : Forest) → Among r inner g → read-here (r .kind) (r .format) ≡ true → Read-as s r inner) → All-fields s g (rows 0 nobody g ++ rest)
-each s g rest h i l k =
+each : (mode : Mode) (s : List ℕ) (g : Forest) (rest : List ℕ) → ((r : Range) (inner : Forest) → Among r inner g → read-here (r .kind) (r .format) ≡ true → Read-as mode s r inner) → All-fields mode s g (rows 0 nobody g ++ rest)
+each mode s g rest h i l k =
     let w = rows 0 nobody g ++ rest in
     let m = stands-in g 0 nobody i rest l in
-    subst (Fields-are s g) (range-is w i)
-    (fields-are s g (descriptor w i) (m .1) (h (descriptor w i) (m .0) (m .1) (ap (λ (r : Range). read-here (r .kind) (r .format)) (range-is w i) ∙ sym (has-fields-is (range w i .kind) (range w i .format)) ∙ k)))
+    subst (Fields-are mode s g) (range-is w i)
+    (fields-are mode s g (descriptor w i) (m .1) (h (descriptor w i) (m .0) (m .1) (ap (λ (r : Range). read-here (r .kind) (r .format)) (range-is w i) ∙ sym (has-fields-is (range w i .kind) (range w i .format)) ∙ k)))
 
-module _ (s : List ℕ) (short : length s ≤ longest-input) (a : Found) (q : Place) (rest : List ℕ) where
-  pub datagram-fields : follow datagram s (from 0) ≡ got a q → All-fields s (a .ranges) (rows 0 nobody (a .ranges) ++ rest)
-  datagram-fields e = each s (a .ranges) rest (λ r inner. field-reading-accepts s short e)
+module _ (mode : Mode) (s : List ℕ) (short : length s ≤ longest-input) (a : Found) (q : Place) (rest : List ℕ) where
+  pub datagram-fields : follow (datagram mode) s (from 0) ≡ got a q → All-fields mode s (a .ranges) (rows 0 nobody (a .ranges) ++ rest)
+  datagram-fields e = each mode s (a .ranges) rest (λ r inner. field-reading-accepts mode s short e)
 
-  pub run-fields : (fuel : ℕ) → datagrams fuel s (from 0) ≡ got a q → All-fields s (a .ranges) (rows 0 nobody (a .ranges) ++ rest)
-  run-fields fuel e = each s (a .ranges) rest (λ r inner. run-reading-accepts s short fuel e)
+  pub run-fields : (fuel : ℕ) → datagrams mode fuel s (from 0) ≡ got a q → All-fields mode s (a .ranges) (rows 0 nobody (a .ranges) ++ rest)
+  run-fields fuel e = each mode s (a .ranges) rest (λ r inner. run-reading-accepts mode s short fuel e)

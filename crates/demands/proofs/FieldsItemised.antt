@@ -16,7 +16,7 @@ use Rattle.reading.specs.Utf8.{_&_}
 use Rattle.reading.specs.Script.{Value, Found}
 use Rattle.reading.specs.Cursor.{Place, Out, got, stop, follow}
 use Rattle.reading.specs.Grammar.{Is}
-use Rattle.reading.specs.Layout.{Field}
+use Rattle.reading.specs.Layout.{Mode, Field}
 use Rattle.reading.specs.Values.{alone, valued, reading}
 use Rattle.reading.specs.Answer.{from, layout-of, Fields, answered, unread, read}
 use Rattle.reading.specs.Sizes.{longest-input}
@@ -106,33 +106,33 @@ module _ (l : List Field) (start : ℕ) (b : List ℕ) where
 range-left : (s : List ℕ) (start extent : ℕ) → start + extent ≤ length s → Left (take (start + extent) s) start (take extent (drop start s))
 range-left s start extent fits = record { there = drop-take start extent s; fits = rw (length-take-le (start + extent) s fits) (omega arith) }
 
-module _ (ak af : ℕ) (s : List ℕ) (k f start extent : ℕ) where
-  pub fields-itemised : Fields-itemised ak af s k f start extent (read ak af s k f start extent)
+module _ (mode : Mode) (ak af : ℕ) (s : List ℕ) (k f start extent : ℕ) where
+  pub fields-itemised : Fields-itemised mode ak af s k f start extent (read mode ak af s k f start extent)
   unfolding read answered valued
   fields-itemised = in-limit (leb (length s) longest-input) refl
     where
       l : List Field
-      l = layout-of ak af
+      l = layout-of mode ak af
 
       asked : (b d : Bool) → eqb k ak ≡ b → eqb f af ≡ d → length s ≤ longest-input → start + extent ≤ length s
-          → Fields-itemised ak af s k f start extent (answered (cond (b & d) (reading l (take (start + extent) s) (from start)) (unread l 11)))
+          → Fields-itemised mode ak af s k f start extent (answered (cond (b & d) (reading l (take (start + extent) s) (from start)) (unread l 11)))
       asked true true e g h i = held h i (eqb-true k ak e) (eqb-true f af g) (layout-held l (range-left s start extent i))
       asked true false e g h i = other h i (λ z. eqb-false f af g (z .1)) refl
       asked false d e g h i = other h i (λ z. eqb-false k ak e (z .0)) refl
 
       in-range : (b : Bool) → leb (start + extent) (length s) ≡ b → length s ≤ longest-input
-          → Fields-itemised ak af s k f start extent (answered (cond b (cond (eqb k ak & eqb f af) (reading l (take (start + extent) s) (from start)) (unread l 11)) (unread l 10)))
+          → Fields-itemised mode ak af s k f start extent (answered (cond b (cond (eqb k ak & eqb f af) (reading l (take (start + extent) s) (from start)) (unread l 11)) (unread l 10)))
       in-range true e h = asked (eqb k ak) (eqb f af) refl refl h (leb-true _ _ e)
       in-range false e h = passes h (leb-false _ _ e) refl
 
       in-limit : (b : Bool) → leb (length s) longest-input ≡ b
-          → Fields-itemised ak af s k f start extent
+          → Fields-itemised mode ak af s k f start extent
           (answered (cond b (cond (leb (start + extent) (length s)) (cond (eqb k ak & eqb f af) (reading l (take (start + extent) s) (from start)) (unread l 11)) (unread l 10)) (unread l 1)))
       in-limit true e = in-range (leb (start + extent) (length s)) refl (leb-true _ _ e)
       in-limit false e = too-long (leb-false _ _ e) refl
 
   -- what is read, where the range is there and asked for its own kind and format
-  own-read : length s ≤ longest-input → start + extent ≤ length s → k ≡ ak → f ≡ af → read ak af s k f start extent ≡ answered (reading (layout-of ak af) (take (start + extent) s) (from start))
+  own-read : length s ≤ longest-input → start + extent ≤ length s → k ≡ ak → f ≡ af → read mode ak af s k f start extent ≡ answered (reading (layout-of mode ak af) (take (start + extent) s) (from start))
   unfolding read
   own-read h i x y = rw (le-leb (length s) longest-input h, le-leb (start + extent) (length s) i, eq-eqb k ak x, eq-eqb f af y)
 
@@ -142,63 +142,63 @@ module _ (ak af : ℕ) (s : List ℕ) (k f start extent : ℕ) where
   not-both false d x y n = refl
 
   -- code 1 before all
-  pub fields-too-long : longest-input < length s → read ak af s k f start extent ≡ no-fields (layout-of ak af) 1 0 0
+  pub fields-too-long : longest-input < length s → read mode ak af s k f start extent ≡ no-fields (layout-of mode ak af) 1 0 0
   unfolding read answered valued
   fields-too-long h = rw (lt-leb (length s) longest-input h)
 
   -- there is one such answer
-  pub itemised-only : {a : Fields} → Fields-itemised ak af s k f start extent a → a ≡ read ak af s k f start extent
+  pub itemised-only : {a : Fields} → Fields-itemised mode ak af s k f start extent a → a ≡ read mode ak af s k f start extent
   unfolding read answered valued
   itemised-only (too-long h e) = e ∙ sym (fields-too-long h)
   itemised-only (passes h i e) = e ∙ rw (le-leb (length s) longest-input h, lt-leb (start + extent) (length s) i)
   itemised-only (other h i n e) = e ∙ rw (le-leb (length s) longest-input h, le-leb (start + extent) (length s) i, not-both (eqb k ak) (eqb f af) refl refl n)
-  itemised-only (held h i x y t) = held-only (layout-of ak af) (range-left s start extent i) t ∙ sym (own-read h i x y)
+  itemised-only (held h i x y t) = held-only (layout-of mode ak af) (range-left s start extent i) t ∙ sym (own-read h i x y)
 
   -- four bytes of the range for each step
-  pub fields-quartered : 4 * read ak af s k f start extent .steps ≤ extent
-  fields-quartered = go (read ak af s k f start extent) refl (fields-itemised)
+  pub fields-quartered : 4 * read mode ak af s k f start extent .steps ≤ extent
+  fields-quartered = go (read mode ak af s k f start extent) refl (fields-itemised)
     where
       none : (a : Fields) {n : ℕ} → a .steps ≡ n → n ≡ 0 → 4 * a .steps ≤ extent
       none a e z = omega arith
 
-      go : (a : Fields) → read ak af s k f start extent ≡ a → Fields-itemised ak af s k f start extent a → 4 * a .steps ≤ extent
+      go : (a : Fields) → read mode ak af s k f start extent ≡ a → Fields-itemised mode ak af s k f start extent a → 4 * a .steps ≤ extent
       go a r (too-long h e) = none a (ap (λ (b : Fields). b .steps) e) refl
       go a r (passes h i e) = none a (ap (λ (b : Fields). b .steps) e) refl
       go a r (other h i n e) = none a (ap (λ (b : Fields). b .steps) e) refl
       go a r (held h i x y t) =
-          let m = held-steps (layout-of ak af) (range-left s start extent i) in
-          let z : a .steps ≡ answered (reading (layout-of ak af) (take (start + extent) s) (from start)) .steps = ap (λ (b : Fields). b .steps) (sym r ∙ own-read h i x y) in
+          let m = held-steps (layout-of mode ak af) (range-left s start extent i) in
+          let z : a .steps ≡ answered (reading (layout-of mode ak af) (take (start + extent) s) (from start)) .steps = ap (λ (b : Fields). b .steps) (sym r ∙ own-read h i x y) in
           omega (arith, m, z, length-take extent (drop start s))
 
   -- the code is one of the table's
-  pub fields-coded : known field-codes (read ak af s k f start extent .code) ≡ true
-  fields-coded = go (read ak af s k f start extent) fields-itemised
+  pub fields-coded : known field-codes (read mode ak af s k f start extent .code) ≡ true
+  fields-coded = go (read mode ak af s k f start extent) fields-itemised
     where
       by : (a : Fields) {n : ℕ} → a .code ≡ n → n ≤ 11 → (n ≡ 8 → ⊥) → (n ≡ 9 → ⊥) → known field-codes (a .code) ≡ true
       by a e h x y = rw e (of-fields _ h x y)
 
-      go : (a : Fields) → Fields-itemised ak af s k f start extent a → known field-codes (a .code) ≡ true
+      go : (a : Fields) → Fields-itemised mode ak af s k f start extent a → known field-codes (a .code) ≡ true
       go a (too-long h e) = by a (ap (λ (b : Fields). b .code) e) (omega arith) (λ z. omega arith) (λ z. omega arith)
       go a (passes h i e) = by a (ap (λ (b : Fields). b .code) e) (omega arith) (λ z. omega arith) (λ z. omega arith)
       go a (other h i n e) = by a (ap (λ (b : Fields). b .code) e) (omega arith) (λ z. omega arith) (λ z. omega arith)
       go a (held h i x y (read-whole vs bytes items r e)) = by a (ap (λ (b : Fields). b .code) e) (omega arith) (λ z. omega arith) (λ z. omega arith)
       go a (held h i x y (stopped-at c j n t e)) =
-          let m = layout-code (layout-of ak af) (fair-layout ak af) t in
+          let m = layout-code (layout-of mode ak af) (fair-layout mode ak af) t in
           by a (ap (λ (b : Fields). b .code) e) (omega (arith, m .1)) (λ z. omega (arith, m .1)) (λ z. omega (arith, m .1))
 
   -- which is 0 exactly where the fields asked for are read
-  pub fields-accepted : (read ak af s k f start extent .code ≡ 0) ↔ ((vs : List Value) × (bytes items : ℕ) × Fields-read ak af s k f start extent vs bytes items)
-  fields-accepted = (λ z. go (read ak af s k f start extent) fields-itemised z, λ (vs, bytes, items, r). ap (λ (a : Fields). a .code) (answer r))
+  pub fields-accepted : (read mode ak af s k f start extent .code ≡ 0) ↔ ((vs : List Value) × (bytes items : ℕ) × Fields-read mode ak af s k f start extent vs bytes items)
+  fields-accepted = (λ z. go (read mode ak af s k f start extent) fields-itemised z, λ (vs, bytes, items, r). ap (λ (a : Fields). a .code) (answer r))
     where
       never : {A : Type 0} {c n : ℕ} → c ≡ n → c ≡ 0 → 0 < n → A
       never e z h = absurd (omega arith)
 
-      go : (a : Fields) → Fields-itemised ak af s k f start extent a → a .code ≡ 0 → (vs : List Value) × (bytes items : ℕ) × Fields-read ak af s k f start extent vs bytes items
+      go : (a : Fields) → Fields-itemised mode ak af s k f start extent a → a .code ≡ 0 → (vs : List Value) × (bytes items : ℕ) × Fields-read mode ak af s k f start extent vs bytes items
       go a (too-long h e) z = never (ap (λ (b : Fields). b .code) e) z (omega arith)
       go a (passes h i e) z = never (ap (λ (b : Fields). b .code) e) z (omega arith)
       go a (other h i n e) z = never (ap (λ (b : Fields). b .code) e) z (omega arith)
       go a (held h i x y (read-whole vs bytes items r e)) z = (vs, bytes, items, record { short = h; lies = omega arith; kind = x; format = y; reading = r })
-      go a (held h i x y (stopped-at c j n t e)) z = let m = layout-code (layout-of ak af) (fair-layout ak af) t in never (ap (λ (b : Fields). b .code) e) z (omega (arith, m .0))
+      go a (held h i x y (stopped-at c j n t e)) z = let m = layout-code (layout-of mode ak af) (fair-layout mode ak af) t in never (ap (λ (b : Fields). b .code) e) z (omega (arith, m .0))
 
-      answer : {vs : List Value} {bytes items : ℕ} → Fields-read ak af s k f start extent vs bytes items → read ak af s k f start extent ≡ record { code = 0; at = start + bytes; steps = items; values = vs }
+      answer : {vs : List Value} {bytes items : ℕ} → Fields-read mode ak af s k f start extent vs bytes items → read mode ak af s k f start extent ≡ record { code = 0; at = start + bytes; steps = items; values = vs }
       answer {vs} {bytes} {items} r = sym (itemised-only (held (r .short) (r .lies) (r .kind) (r .format) (read-whole vs bytes items (r .reading) refl)))

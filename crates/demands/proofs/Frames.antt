@@ -10,7 +10,7 @@ use lib.ListN.{length, take, drop, length-append, take-append-drop}
 use lib.Seq.{length-take-le}
 use Rattle.reading.specs.Script.{Value, number, Range, Forest, _⊕_, Found, nothing, Item, word, Script, give, here, item, repeat}
 use Rattle.reading.specs.Grammar.{Opaque, Is-item, Many, Is}
-use Rattle.reading.specs.Layout.{num, Field, plain, mac, addr, list, segments, address-of, run-of, field, fields, Row, _⟼_, _⟼_each_, last-number, opened, Fixed, fixed-rows, ranged, between, framed, pdu, flows, flow, counters, counter, samples, sample, header, datagram-to}
+use Rattle.reading.specs.Layout.{Mode, num, Field, plain, mac, addr, list, segments, address-of, run-of, field, fields, Row, _⟼_, _⟼_each_, last-number, opened, Fixed, fixed-rows, ranged, between, framed, pdu, flows, flow, counters, counter, samples, sample, header, datagram-to}
 use Rattle.reading.specs.Answer.{nobody, size, rows, one, run, payload}
 use Rattle.reading.specs.Sizes.{longest-input, descriptor-words}
 use Rattle.reading.proofs.Descriptors.{Among, this, inside, later, stands-in}
@@ -130,44 +130,44 @@ good-opened over-all f = good-none
 good-opened (flat {g} {l} t) f = two (eqb g f) (good-fields l (λ vs. good-none)) (good-opened t f)
 good-opened (counts {g} {l} h t) f = two (eqb g f) (good-fields l (λ vs. good-each (last-number vs) h)) (good-opened t f)
 
-good-flows : {a : Script} → Good a → Rows (flows a)
+good-flows : (mode : Mode) {a : Script} → Good a → Rows (flows mode a)
 unfolding flows
-good-flows h = search (flat, counts, over-all) depth 200
+good-flows mode h = search (flat, counts, over-all) depth 200
 
-good-flow : (longest-input left : ℕ) → Good (flow longest-input left)
+good-flow : (mode : Mode) (longest-input left : ℕ) → Good (flow mode longest-input left)
 unfolding flow Is
-good-flow longest-input zero = record { says = λ o u f k t. absurd t }
-good-flow longest-input (suc left) = good-framed 2 (longest-input - left) (good-opened (good-flows (good-pdu (longest-input - left) (good-flow longest-input left))))
+good-flow mode longest-input zero = record { says = λ o u f k t. absurd t }
+good-flow mode longest-input (suc left) = good-framed 2 (longest-input - left) (good-opened (good-flows mode (good-pdu (longest-input - left) (good-flow mode longest-input left))))
 
 good-fixed : (t : List Fixed) → Rows (fixed-rows t)
 good-fixed [] = over-all
 good-fixed (x ∷ t) = flat (good-fixed t)
 
-good-sample : (longest-input : ℕ) → Good (sample longest-input)
+good-sample : (mode : Mode) (longest-input : ℕ) → Good (sample mode longest-input)
 unfolding samples
-good-sample longest-input =
-    let f : Good (flow longest-input longest-input) = good-flow longest-input longest-input in
+good-sample mode longest-input =
+    let f : Good (flow mode longest-input longest-input) = good-flow mode longest-input longest-input in
     let c : Good counter = good-framed 3 1 (good-opened (good-fixed counters)) in
     good-framed 1 0 (good-opened (counts f (counts c (counts f (counts c (counts f over-all))))))
 
-good-datagram : (longest-input o : ℕ) (u : List ℕ) (f : Found) (k : ℕ) → Is (datagram-to longest-input) o u f k → (s : List ℕ) → Stands-at s o u → Frames s (f .ranges)
+good-datagram : (mode : Mode) (longest-input o : ℕ) (u : List ℕ) (f : Found) (k : ℕ) → Is (datagram-to mode longest-input) o u f k → (s : List ℕ) → Stands-at s o u → Frames s (f .ranges)
 unfolding Is datagram-to
-good-datagram longest-input o u f k t = good-fields header (λ vs. samples-of o vs) .says o u f k t
+good-datagram mode longest-input o u f k t = good-fields header (λ vs. samples-of o vs) .says o u f k t
   where
-    samples-of : (a : ℕ) (vs : List Value) → Good (repeat (last-number vs) (sample longest-input) (λ r. here (λ e. give (record { values = vs; ranges = ranged 0 0 0 a (between a e) (r .ranges) }))))
+    samples-of : (a : ℕ) (vs : List Value) → Good (repeat (last-number vs) (sample mode longest-input) (λ r. here (λ e. give (record { values = vs; ranges = ranged 0 0 0 a (between a e) (r .ranges) }))))
     samples-of a vs = record {
-      says = λ o u f k (x, y, b, i, j, e, en, many, (ey, ef, ej)) s h. found-as ef (also (λ m n. absurd (omega arith)) (good-many (good-sample longest-input) (last-number vs) _ _ _ _ many s (front x y e h)) none);
+      says = λ o u f k (x, y, b, i, j, e, en, many, (ey, ef, ej)) s h. found-as ef (also (λ m n. absurd (omega arith)) (good-many (good-sample mode longest-input) (last-number vs) _ _ _ _ many s (front x y e h)) none);
     }
 
-good-run-of : (s : List ℕ) {at end n : ℕ} {g : Forest} → Run s at g end n → Frames s g
-good-run-of s (over e f m z) = rw z none
-good-run-of s {at} (next f bytes items h m d e z t) =
+good-run-of : (mode : Mode) (s : List ℕ) {at end n : ℕ} {g : Forest} → Run mode s at g end n → Frames s g
+good-run-of mode s (over e f m z) = rw z none
+good-run-of mode s {at} (next f bytes items h m d e z t) =
     let r = d .allowed .reading in
     let i = r .begins in
-    rw z (both (good-datagram (r .levels) at (i .read) f items (i .is) s
+    rw z (both (good-datagram mode (r .levels) at (i .read) f items (i .is) s
     (record { before = take at s; after = i .rest; joined = sym (take-append-drop at s) ∙ ap (λ (b : List ℕ). take at s ++ b) (i .joined); long = length-take-le at s (d .inside) }))
-    (good-run-of s t))
-good-run-of s (cut h i t e z) = rw z none
+    (good-run-of mode s t))
+good-run-of mode s (cut h i t e z) = rw z none
 
 -- ---- the payload that is answered is what the opaque holds
 pub frame-payload : (s : List ℕ) (r : Range) → length s ≤ longest-input → (f : Frame-at s r) → payload s (r .span .start) (r .span .count) ≡ f .payload
@@ -188,17 +188,17 @@ each-of (also h i j) (later m) = each-of j m
 in-store : (s : List ℕ) (g : Forest) (rest : List ℕ) → Frames s g → (i : ℕ) → i < size g → Frame s (range (rows 0 nobody g ++ rest) i)
 in-store s g rest h i l = subst (Frame s) (range-is (rows 0 nobody g ++ rest) i) (each-of h (stands-in g 0 nobody i rest l .1))
 
-module _ (s w : List ℕ) where
-  pub one-frames : one s w .code ≡ 0 → (i : ℕ) → i < one s w .needed → Frame s (range (one s w .store) i)
+module _ (mode : Mode) (s w : List ℕ) where
+  pub one-frames : one mode s w .code ≡ 0 → (i : ℕ) → i < one mode s w .needed → Frame s (range (one mode s w .store) i)
   one-frames z i l =
-      let a = accepted-reads one-reads s w z in
+      let a = accepted-reads (one-reads mode) s w z in
       let r = a .reading .reading in
       let b = r .begins in
       subst (λ (t : List ℕ). Frame s (range t i)) (sym (a .answers .store))
       (in-store s (a .found .ranges) (drop (descriptor-words * size (a .found .ranges)) w)
-      (good-datagram (r .levels) 0 (b .read) (a .found) (a .items) (b .is) s (record { before = []; after = b .rest; joined = b .joined; long = refl })) i (rw (a .answers .needed) at l))
+      (good-datagram mode (r .levels) 0 (b .read) (a .found) (a .items) (b .is) s (record { before = []; after = b .rest; joined = b .joined; long = refl })) i (rw (a .answers .needed) at l))
 
-  pub run-frames : run s w .code ≡ 0 → (i : ℕ) → i < run s w .needed → Frame s (range (run s w .store) i)
+  pub run-frames : run mode s w .code ≡ 0 → (i : ℕ) → i < run mode s w .needed → Frame s (range (run mode s w .store) i)
   run-frames z i l =
-      let a = accepted-reads run-reads s w z in
-      subst (λ (t : List ℕ). Frame s (range t i)) (sym (a .answers .store)) (in-store s (a .found) (drop (descriptor-words * size (a .found)) w) (good-run-of s (a .reading)) i (rw (a .answers .needed) at l))
+      let a = accepted-reads (run-reads mode) s w z in
+      subst (λ (t : List ℕ). Frame s (range t i)) (sym (a .answers .store)) (in-store s (a .found) (drop (descriptor-words * size (a .found)) w) (good-run-of mode s (a .reading)) i (rw (a .answers .needed) at l))

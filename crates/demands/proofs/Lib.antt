@@ -33,4 +33,5 @@ pub mod Impostors
 pub mod CodesOccur
 pub mod Characters
 pub mod IllFormed
+pub mod Modes
 pub mod Demands

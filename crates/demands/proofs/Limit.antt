@@ -8,7 +8,7 @@ use native.Mathlib.Omega.{arith}
 use lib.Dec.{eqb}
 use Rattle.reading.specs.Script.{Value, Found, nothing, Item, Script, give, here, item, repeat}
 use Rattle.reading.specs.Grammar.{Many, Is}
-use Rattle.reading.specs.Layout.{num, Field, plain, mac, addr, list, segments, address-of, run-of, field, fields, Row, _⟼_, _⟼_each_, last-number, opened, Fixed, fixed-rows, ranged, between, framed, pdu, flows, flow, counters, counter, samples, sample, header, datagram-to}
+use Rattle.reading.specs.Layout.{Mode, num, Field, plain, mac, addr, list, segments, address-of, run-of, field, fields, Row, _⟼_, _⟼_each_, last-number, opened, Fixed, fixed-rows, ranged, between, framed, pdu, flows, flow, counters, counter, samples, sample, header, datagram-to}
 use Rattle.demands.specs.Depths.{Shallow, none, also}
 use Rattle.demands.proofs.Depths.{joined, front, back, inner-shallow, own-depth}
 
@@ -20,7 +20,7 @@ two : {n m : ℕ} {a b c d : Script} (t : Bool) → Both n m a b → Both n m c 
 two true h g = h
 two false h g = g
 
-module _ (n m : ℕ) where
+module _ (mode : Mode) (n m : ℕ) where
   found-as : {f a : Found} → f ≡ a → Shallow n (a .ranges) → Shallow n (f .ranges)
   found-as e h = subst (λ (b : Found). Shallow n (b .ranges)) (sym e) h
 
@@ -108,7 +108,7 @@ module _ (n m : ℕ) where
   both-opened (flat {g} {l} t) f = two (eqb g f) (both-fields l (λ vs. both-none)) (both-opened t f)
   both-opened (counts {g} {l} h t) f = two (eqb g f) (both-fields l (λ vs. both-each (last-number vs) h)) (both-opened t f)
 
-  both-flows : {a b : Script} → Both n m a b → Rows (flows a) (flows b)
+  both-flows : {a b : Script} → Both n m a b → Rows (flows mode a) (flows mode b)
   unfolding flows
   both-flows h = search (flat, counts, over) depth 200
 
@@ -119,66 +119,66 @@ module _ (n m : ℕ) where
 -- ---- records, by the levels that are left
 
 -- a record at depth d, by what its PDUs hold
-abbrev record-of : ℕ → Script → Script
-record-of d a = framed 2 d (opened (flows (pdu d a)))
+abbrev record-of : Mode → ℕ → Script → Script
+record-of mode d a = framed 2 d (opened (flows mode (pdu d a)))
 
-both-record : (n m d e : ℕ) {a b : Script} → d ≤ n → e ≡ d → Both n m a b → Both n m (record-of d a) (record-of e b)
-both-record n m d e {a} {b} l z h =
-    subst (λ (c : ℕ). Both n m (record-of d a) (record-of c b)) (sym z) (both-framed n m 2 d (λ k. l) (both-opened n m (both-flows n m (both-pdu n m d h))))
+both-record : (mode : Mode) (n m d e : ℕ) {a b : Script} → d ≤ n → e ≡ d → Both n m a b → Both n m (record-of mode d a) (record-of mode e b)
+both-record mode n m d e {a} {b} l z h =
+    subst (λ (c : ℕ). Both n m (record-of mode d a) (record-of mode c b)) (sym z) (both-framed mode n m 2 d (λ k. l) (both-opened mode n m (both-flows mode n m (both-pdu mode n m d h))))
 
 -- which is too deep
-too-deep : (n m d : ℕ) (a b : Script) → Both n n (record-of d a) (record-of d a) → m < d → Both n m (record-of d a) b
+too-deep : (mode : Mode) (n m d : ℕ) (a b : Script) → Both n n (record-of mode d a) (record-of mode d a) → m < d → Both n m (record-of mode d a) b
 unfolding Is
-too-deep n m d a b w l =
+too-deep mode n m d a b w l =
     record { says = λ o u f k h. (w .says o u f k h .0, λ z. absurd (go o u f k h z)) }
   where
-    go : (o : ℕ) (u : List ℕ) (f : Found) (k : ℕ) → Is (record-of d a) o u f k → Shallow m (f .ranges) → ⊥
+    go : (o : ℕ) (u : List ℕ) (f : Found) (k : ℕ) → Is (record-of mode d a) o u f k → Shallow m (f .ranges) → ⊥
     go o u f k (x, y, v, i, e, en, ix, (x′, y′, s, inner, rest, c, p, q, e′, en′, r, es, ia, (ey, ef, ej))) z =
         let t : d ≤ m = own-depth (subst (λ (g : Found). Shallow m (g .ranges)) ef z) refl in
         omega arith
 
-none-left : (n m : ℕ) (b : Script) → Both n m (flow n zero) b
+none-left : (mode : Mode) (n m : ℕ) (b : Script) → Both n m (flow mode n zero) b
 unfolding flow Is
-none-left n m b = record { says = λ o u f k h. absurd h }
+none-left mode n m b = record { says = λ o u f k h. absurd h }
 
-within-flow : (n left : ℕ) → Both n n (flow n left) (flow n left)
+within-flow : (mode : Mode) (n left : ℕ) → Both n n (flow mode n left) (flow mode n left)
 unfolding flow
-within-flow n zero = none-left n n (flow n zero)
-within-flow n (suc left) = both-record n n (n - left) (n - left) (omega arith) refl (within-flow n left)
+within-flow mode n zero = none-left mode n n (flow mode n zero)
+within-flow mode n (suc left) = both-record mode n n (n - left) (n - left) (omega arith) refl (within-flow mode n left)
 
 -- a record at one depth: `left` of n levels, and `rest` of m
-both-flow : (n m left rest : ℕ) → left ≤ n → rest ≤ m → n - left ≡ m - rest → Both n m (flow n left) (flow m rest)
+both-flow : (mode : Mode) (n m left rest : ℕ) → left ≤ n → rest ≤ m → n - left ≡ m - rest → Both n m (flow mode n left) (flow mode m rest)
 unfolding flow
-both-flow n m zero rest i j e = none-left n m (flow m rest)
-both-flow n m (suc left) zero i j e = too-deep n m (n - left) (flow n left) (flow m zero) (within-flow n (suc left)) (omega arith)
-both-flow n m (suc left) (suc rest) i j e = both-record n m (n - left) (m - rest) (omega arith) (omega arith) (both-flow n m left rest (omega arith) (omega arith) (omega arith))
+both-flow mode n m zero rest i j e = none-left mode n m (flow mode m rest)
+both-flow mode n m (suc left) zero i j e = too-deep mode n m (n - left) (flow mode n left) (flow mode m zero) (within-flow mode n (suc left)) (omega arith)
+both-flow mode n m (suc left) (suc rest) i j e = both-record mode n m (n - left) (m - rest) (omega arith) (omega arith) (both-flow mode n m left rest (omega arith) (omega arith) (omega arith))
 
 -- ---- a datagram
 
-both-sample : (n m : ℕ) → Both n m (sample n) (sample m)
+both-sample : (mode : Mode) (n m : ℕ) → Both n m (sample mode n) (sample mode m)
 unfolding samples
-both-sample n m =
-    let f : Both n m (flow n n) (flow m m) = both-flow n m n m (omega arith) (omega arith) (omega arith) in
-    let c : Both n m counter counter = both-framed n m 3 1 (λ z. absurd (omega arith)) (both-opened n m (both-fixed n m counters)) in
-    both-framed n m 1 0 (λ z. absurd (omega arith)) (both-opened n m (counts f (counts c (counts f (counts c (counts f over))))))
+both-sample mode n m =
+    let f : Both n m (flow mode n n) (flow mode m m) = both-flow mode n m n m (omega arith) (omega arith) (omega arith) in
+    let c : Both n m counter counter = both-framed mode n m 3 1 (λ z. absurd (omega arith)) (both-opened mode n m (both-fixed mode n m counters)) in
+    both-framed mode n m 1 0 (λ z. absurd (omega arith)) (both-opened mode n m (counts f (counts c (counts f (counts c (counts f over))))))
 
-both-datagram : (n m : ℕ) → Both n m (datagram-to n) (datagram-to m)
+both-datagram : (mode : Mode) (n m : ℕ) → Both n m (datagram-to mode n) (datagram-to mode m)
 unfolding Is datagram-to
-both-datagram n m = record { says = λ o u f k h. both-fields n m header (λ vs. samples-of o vs) .says o u f k h }
+both-datagram mode n m = record { says = λ o u f k h. both-fields mode n m header (λ vs. samples-of o vs) .says o u f k h }
   where
     samples-of : (a : ℕ) (vs : List Value) → Both n m
-        (repeat (last-number vs) (sample n) (λ r. here (λ e. give (record { values = vs; ranges = ranged 0 0 0 a (between a e) (r .ranges) }))))
-        (repeat (last-number vs) (sample m) (λ r. here (λ e. give (record { values = vs; ranges = ranged 0 0 0 a (between a e) (r .ranges) }))))
+        (repeat (last-number vs) (sample mode n) (λ r. here (λ e. give (record { values = vs; ranges = ranged 0 0 0 a (between a e) (r .ranges) }))))
+        (repeat (last-number vs) (sample mode m) (λ r. here (λ e. give (record { values = vs; ranges = ranged 0 0 0 a (between a e) (r .ranges) }))))
     samples-of a vs = record {
       says = λ o u f k (x, y, b, i, j, e, en, many, (ey, ef, ej)).
-          let r = both-many n m (both-sample n m) (last-number vs) _ _ _ _ many in
-          (found-as n m ef (also (λ z. absurd (omega arith)) (r .0) none), λ z. (x, y, b, i, j, e, en, r .1 (inner-shallow (as-found n m ef z)), (ey, ef, ej)));
+          let r = both-many mode n m (both-sample mode n m) (last-number vs) _ _ _ _ many in
+          (found-as mode n m ef (also (λ z. absurd (omega arith)) (r .0) none), λ z. (x, y, b, i, j, e, en, r .1 (inner-shallow (as-found mode n m ef z)), (ey, ef, ej)));
     }
 
 -- a reading with n levels has no record deeper than n
-pub no-deeper : (n o : ℕ) (b : List ℕ) (f : Found) (k : ℕ) → Is (datagram-to n) o b f k → Shallow n (f .ranges)
-no-deeper n o b f k h = both-datagram n n .says o b f k h .0
+pub no-deeper : (mode : Mode) (n o : ℕ) (b : List ℕ) (f : Found) (k : ℕ) → Is (datagram-to mode n) o b f k → Shallow n (f .ranges)
+no-deeper mode n o b f k h = both-datagram mode n n .says o b f k h .0
 
 -- and if it has none deeper than m, it is a reading with m levels
-pub same-reading : (n m o : ℕ) (b : List ℕ) (f : Found) (k : ℕ) → Is (datagram-to n) o b f k → Shallow m (f .ranges) → Is (datagram-to m) o b f k
-same-reading n m o b f k h z = both-datagram n m .says o b f k h .1 z
+pub same-reading : (mode : Mode) (n m o : ℕ) (b : List ℕ) (f : Found) (k : ℕ) → Is (datagram-to mode n) o b f k → Shallow m (f .ranges) → Is (datagram-to mode m) o b f k
+same-reading mode n m o b f k h z = both-datagram mode n m .says o b f k h .1 z

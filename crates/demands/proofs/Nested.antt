@@ -11,7 +11,7 @@ use lib.Dec.{eqb, leb}
 use lib.ListN.{length, take}
 use Rattle.reading.specs.Script.{Value, Range, Forest, _⊕_, Found, nothing, Script, give}
 use Rattle.reading.specs.Cursor.{Place, Out, got, stop, Reader, times, follow}
-use Rattle.reading.specs.Layout.{Field, fields, Row, _⟼_, _⟼_each_, last-number, opened, Fixed, fixed-rows, ranged, between, framed, pdu, flows, flow, counters, counter, samples, sample, header, datagram-to, datagram}
+use Rattle.reading.specs.Layout.{Mode, Field, fields, Row, _⟼_, _⟼_each_, last-number, opened, Fixed, fixed-rows, ranged, between, framed, pdu, flows, flow, counters, counter, samples, sample, header, datagram-to, datagram}
 use Rattle.reading.specs.Sizes.{depth-limit}
 use Rattle.reading.specs.Answer.{tried, datagrams}
 use Rattle.demands.specs.Nested.{end, last, Level, top, inside, Kind-at, Led, inner-from, Nested, none, next}
@@ -144,49 +144,49 @@ orderly-pdu depth body w o s p a q h e = go (pdu-read depth body s p e)
         subst (λ (b : Found). Nested inside (p .at) (q .at) (b .ranges)) (sym (f .found))
         (spanned 4 0 depth (p .at) four (omega (arith, f .start)) (aligned-times body w (f .count) s (f .first) (f .inner) q (f .held)) (orderly-times body o (f .count) s (f .first) (f .inner) q (rw (f .start) (f .fits)) (f .held)))
 
-orderly-flows : (inner : Script) → Orderly inside (follow inner) → Rows (flows inner)
+orderly-flows : (mode : Mode) (inner : Script) → Orderly inside (follow inner) → Rows (flows mode inner)
 unfolding flows
-orderly-flows inner h = search (flat, counts, over) depth 200
+orderly-flows mode inner h = search (flat, counts, over) depth 200
 
-orderly-flow : (limit left : ℕ) → Orderly inside (follow (flow limit left))
+orderly-flow : (mode : Mode) (limit left : ℕ) → Orderly inside (follow (flow mode limit left))
 unfolding flow follow
-orderly-flow limit zero = λ s p a q h e. never e
-orderly-flow limit (suc left) =
-    let inner = pdu (limit - left) (flow limit left) in
-    orderly-framed 2 (limit - left) (opened (flows inner)) (omega arith) (orderly-opened (orderly-flows inner (orderly-pdu (limit - left) (flow limit left) (aligned-flow limit left) (orderly-flow limit left))))
+orderly-flow mode limit zero = λ s p a q h e. never e
+orderly-flow mode limit (suc left) =
+    let inner = pdu (limit - left) (flow mode limit left) in
+    orderly-framed 2 (limit - left) (opened (flows mode inner)) (omega arith) (orderly-opened (orderly-flows mode inner (orderly-pdu (limit - left) (flow mode limit left) (aligned-flow mode limit left) (orderly-flow mode limit left))))
 
 orderly-fixed : (t : List Fixed) → Rows (fixed-rows t)
 orderly-fixed [] = over
 orderly-fixed (x ∷ t) = flat (orderly-fixed t)
 
-orderly-sample : (limit : ℕ) → Orderly inside (follow (sample limit))
+orderly-sample : (mode : Mode) (limit : ℕ) → Orderly inside (follow (sample mode limit))
 unfolding samples
-orderly-sample limit =
-    let f : Orderly inside (follow (flow limit limit)) = orderly-flow limit limit in
+orderly-sample mode limit =
+    let f : Orderly inside (follow (flow mode limit limit)) = orderly-flow mode limit limit in
     let c : Orderly inside (follow counter) = orderly-framed 3 1 (opened (fixed-rows counters)) (omega arith) (orderly-opened (orderly-fixed counters)) in
-    orderly-framed 1 0 (opened (samples limit)) (omega arith) (orderly-opened (counts f (counts c (counts f (counts c (counts f over))))))
+    orderly-framed 1 0 (opened (samples mode limit)) (omega arith) (orderly-opened (counts f (counts c (counts f (counts c (counts f over))))))
 
 -- ---- a datagram, and a run of them
 
-pub datagram-nested : (limit : ℕ) → Orderly top (follow (datagram-to limit))
-datagram-nested limit s p a q h e =
-    let w = split (fields-out header s p) _ (sym (datagram-is limit s p) ∙ e) in
+pub datagram-nested : (mode : Mode) (limit : ℕ) → Orderly top (follow (datagram-to mode limit))
+datagram-nested mode limit s p a q h e =
+    let w = split (fields-out header s p) _ (sym (datagram-is mode limit s p) ∙ e) in
     let i = header-on s p h (w .first) in
-    let v = split (times (last-number (w .value)) (follow (sample limit)) s (w .place)) _ (w .second) in
-    let k = and-then (aligned-header s p (w .value) (w .place) (w .first)) (aligned-times (sample limit) (aligned-sample limit) (last-number (w .value)) s (w .place) (v .value) (v .place) (v .first)) in
-    moved {a = whole (p .at) (w .value) (v .value) (v .place)} (v .second) (spanned 0 0 0 (p .at) refl refl k (sooner (p .at + 4) (omega (arith, i .0)) (orderly-times (sample limit) (orderly-sample limit) (last-number (w .value)) s (w .place) (v .value) (v .place) (i .1) (v .first))))
+    let v = split (times (last-number (w .value)) (follow (sample mode limit)) s (w .place)) _ (w .second) in
+    let k = and-then (aligned-header s p (w .value) (w .place) (w .first)) (aligned-times (sample mode limit) (aligned-sample mode limit) (last-number (w .value)) s (w .place) (v .value) (v .place) (v .first)) in
+    moved {a = whole (p .at) (w .value) (v .value) (v .place)} (v .second) (spanned 0 0 0 (p .at) refl refl k (sooner (p .at + 4) (omega (arith, i .0)) (orderly-times (sample mode limit) (orderly-sample mode limit) (last-number (w .value)) s (w .place) (v .value) (v .place) (i .1) (v .first))))
 
-pub run-nested : (fuel : ℕ) → Orderly top (datagrams fuel)
+pub run-nested : (mode : Mode) (fuel : ℕ) → Orderly top (datagrams mode fuel)
 unfolding datagrams tried
-run-nested zero s p a q h e = moved e (none (le-refl _))
-run-nested (suc fuel) s p a q h e = go (λ r b v. run-nested fuel s r b v) (leb (length s) (p .at)) (follow datagram s p) refl e
+run-nested mode zero s p a q h e = moved e (none (le-refl _))
+run-nested mode (suc fuel) s p a q h e = go (λ r b v. run-nested mode fuel s r b v) (leb (length s) (p .at)) (follow (datagram mode) s p) refl e
   where
-    go : ((r : Place) (b : Found) (v : Place) → r .at ≤ length s → datagrams fuel s r ≡ got b v → Nested top (r .at) (v .at) (b .ranges))
-        → (t : Bool) (o : Out Found) → follow datagram s p ≡ o → cond t (got nothing p) (tried o p (datagrams fuel s)) ≡ got a q → Nested top (p .at) (q .at) (a .ranges)
+    go : ((r : Place) (b : Found) (v : Place) → r .at ≤ length s → datagrams mode fuel s r ≡ got b v → Nested top (r .at) (v .at) (b .ranges))
+        → (t : Bool) (o : Out Found) → follow (datagram mode) s p ≡ o → cond t (got nothing p) (tried o p (datagrams mode fuel s)) ≡ got a q → Nested top (p .at) (q .at) (a .ranges)
     go again true o f e = moved e (none (le-refl _))
     go again false (got d r) f e =
-        let v = split (datagrams fuel s r) _ e in
-        moved (v .second) (joined (datagram-nested depth-limit s p d r h f) (again r (v .value) (v .place) (onward datagram s p h f .1) (v .first)))
+        let v = split (datagrams mode fuel s r) _ e in
+        moved (v .second) (joined (datagram-nested mode depth-limit s p d r h f) (again r (v .value) (v .place) (onward (datagram mode) s p h f .1) (v .first)))
     go again false (stop c i n) f e = ends (eqb c 2) e
       where
         ends : (t : Bool) → cond t (got nothing (record { at = p .at; steps = n })) (stop c i n) ≡ got a q → Nested top (p .at) (q .at) (a .ranges)

@@ -7,7 +7,7 @@ use native.Mathlib.Nat.{le-refl, add-assoc}
 use lib.ListN.{length, take, drop, length-append, length-drop, length-take}
 use Rattle.reading.specs.Script.{Width, four, six, eight, sixteen, octet-count, Value, Found, Item, word, tested, long, int, block, opaque, string, Script, give, refuse, here, item, within, repeat, Forest}
 use Rattle.reading.specs.Grammar.{Is-item, Meaning, Many, Is}
-use Rattle.reading.specs.Layout.{datagram-to, datagram}
+use Rattle.reading.specs.Layout.{Mode, datagram-to, datagram}
 use Rattle.reading.specs.Values.{alone}
 use Rattle.reading.specs.Answer.{one, run, layout-of, Fields, read}
 use Rattle.demands.specs.Stops.{Stops, barred, standing, no-item, not-text, past-item, no-opaque, inside-it, past-it, among, past-all}
@@ -140,20 +140,20 @@ own-before {o = o} {b = b} (past-all {c} {body} x y a m l e f r t) =
 
 -- ---- a datagram, and a run
 
-own-allowed : {o : ℕ} {b : List ℕ} {f : Found} {bytes items : ℕ} (r : Allowed o b f bytes items) → Own o (o + bytes) items (firsts-of r)
-own-allowed {o} {f = f} {bytes} {items} r = let i = r .reading .begins in widen (o + bytes) (omega (arith, i .long)) (own (datagram-to (r .reading .levels)) o (i .read) f items (i .is))
+own-allowed : {mode : Mode} {o : ℕ} {b : List ℕ} {f : Found} {bytes items : ℕ} (r : Allowed mode o b f bytes items) → Own o (o + bytes) items (firsts-of r)
+own-allowed {mode} {o} {f = f} {bytes} {items} r = let i = r .reading .begins in widen (o + bytes) (omega (arith, i .long)) (own (datagram-to mode (r .reading .levels)) o (i .read) f items (i .is))
 
-module _ (s : List ℕ) where
-  own-tried : {at c i n : ℕ} → at < length s → (t : Stops datagram at (drop at s) c i n) → Own at (length s) n (firsts-before t)
+module _ (mode : Mode) (s : List ℕ) where
+  own-tried : {at c i n : ℕ} → at < length s → (t : Stops (datagram mode) at (drop at s) c i n) → Own at (length s) n (firsts-before t)
   own-tried {at} h t = widen (length s) (omega (arith, length-drop at s)) (own-before t)
 
-  own-run : {at end n : ℕ} {g : Forest} (t : Run s at g end n) → Own at (length s) n (run-firsts t)
+  own-run : {at end n : ℕ} {g : Forest} (t : Run mode s at g end n) → Own at (length s) n (run-firsts t)
   unfolding run-firsts
   own-run (over e f m z) = no-more (omega arith) m
   own-run (next f bytes items h m d e z t) = and-on e (own-allowed (d .allowed)) (own-run t)
   own-run (cut h i t e z) = own-tried h t
 
-  own-run-before : {at c i n : ℕ} (t : Run-stops s at c i n) → Own at (length s) n (run-firsts-before t)
+  own-run-before : {at c i n : ℕ} (t : Run-stops mode s at c i n) → Own at (length s) n (run-firsts-before t)
   unfolding run-firsts-before
   own-run-before (this h t z) = own-tried h t
   own-run-before (later f bytes items m d e t) = and-on e (own-allowed (d .allowed)) (own-run-before t)
@@ -164,31 +164,31 @@ module _ (s : List ℕ) where
 as-many : {lo hi n k : ℕ} {l : List ℕ} → k ≡ n → Own lo hi n l → Own lo hi k l
 as-many e t = record { each = t .each ∙ sym e; apart = t .apart }
 
-module _ (s w : List ℕ) where
-  own-reading : {f : Found} {bytes items : ℕ} (r : Allowed 0 s f bytes items) → Own 0 (length s) items (firsts-of r)
+module _ (mode : Mode) (s w : List ℕ) where
+  own-reading : {f : Found} {bytes items : ℕ} (r : Allowed mode 0 s f bytes items) → Own 0 (length s) items (firsts-of r)
   own-reading r =
       let b = r .reading .begins in
       let z = ap length (b .joined) ∙ length-append (b .read) (b .rest) in
       widen (length s) (omega (arith, z, b .long)) (own-allowed r)
 
-  pub one-owns : (at : List ℕ) × Counted s at × Own 0 (length s) (one s w .steps) at
+  pub one-owns : (at : List ℕ) × Counted mode s at × Own 0 (length s) (one mode s w .steps) at
   one-owns =
-      by-items one-reads (λ n. (at : List ℕ) × Counted s at × Own 0 (length s) n at) s w (λ h. ([], too-long h, no-more (omega arith) refl))
+      by-items (one-reads mode) (λ n. (at : List ℕ) × Counted mode s at × Own 0 (length s) n at) s w (λ h. ([], too-long h, no-more (omega arith) refl))
       (λ c i n t. (firsts-before t, faulty t, widen (length s) (omega arith) (own-before t))) (λ f bytes items r. (_, whole r, own-reading r))
 
-  pub run-owns : (at : List ℕ) × Run-counted s at × Own 0 (length s) (run s w .steps) at
+  pub run-owns : (at : List ℕ) × Run-counted mode s at × Own 0 (length s) (run mode s w .steps) at
   run-owns =
-      by-items run-reads (λ n. (at : List ℕ) × Run-counted s at × Own 0 (length s) n at) s w (λ h. ([], run-long h, no-more (omega arith) refl))
-      (λ c i n t. (run-firsts-before t, run-faulty t, own-run-before s t)) (λ g end n t. (run-firsts t, run-whole t, own-run s t))
+      by-items (run-reads mode) (λ n. (at : List ℕ) × Run-counted mode s at × Own 0 (length s) n at) s w (λ h. ([], run-long h, no-more (omega arith) refl))
+      (λ c i n t. (run-firsts-before t, run-faulty t, own-run-before mode s t)) (λ g end n t. (run-firsts t, run-whole t, own-run mode s t))
 
-module _ (ak af : ℕ) (s : List ℕ) (k f start extent : ℕ) where
-  pub fields-own : (at : List ℕ) × Fields-counted ak af s k f start extent at × Own start (start + extent) (read ak af s k f start extent .steps) at
-  fields-own = go (read ak af s k f start extent) (fields-itemised ak af s k f start extent)
+module _ (mode : Mode) (ak af : ℕ) (s : List ℕ) (k f start extent : ℕ) where
+  pub fields-own : (at : List ℕ) × Fields-counted mode ak af s k f start extent at × Own start (start + extent) (read mode ak af s k f start extent .steps) at
+  fields-own = go (read mode ak af s k f start extent) (fields-itemised mode ak af s k f start extent)
     where
       l : length (take extent (drop start s)) ≤ extent
       l = omega (arith, length-take extent (drop start s))
 
-      go : (a : Fields) → Fields-itemised ak af s k f start extent a → (at : List ℕ) × Fields-counted ak af s k f start extent at × Own start (start + extent) (a .steps) at
+      go : (a : Fields) → Fields-itemised mode ak af s k f start extent a → (at : List ℕ) × Fields-counted mode ak af s k f start extent at × Own start (start + extent) (a .steps) at
       go a (long-fields h e) = ([], not-read (λ x y u v. omega arith), no-more (omega arith) (ap (λ (b : Fields). b .steps) e))
       go a (passes h i e) = ([], not-read (λ x y u v. omega arith), no-more (omega arith) (ap (λ (b : Fields). b .steps) e))
       go a (other h i n e) = ([], not-read (λ x y u v. n (u, v)), no-more (omega arith) (ap (λ (b : Fields). b .steps) e))
@@ -197,5 +197,5 @@ module _ (ak af : ℕ) (s : List ℕ) (k f start extent : ℕ) where
           let z = ap length (r .joined) in (
             _,
             fields-whole r,
-            as-many (ap (λ (b : Fields). b .steps) e) (widen (start + extent) (omega (arith, l, simp length-append at z)) (own (alone (layout-of ak af)) start (r .read) (only-values vs) items (r .is))),
+            as-many (ap (λ (b : Fields). b .steps) e) (widen (start + extent) (omega (arith, l, simp length-append at z)) (own (alone (layout-of mode ak af)) start (r .read) (only-values vs) items (r .is))),
           )

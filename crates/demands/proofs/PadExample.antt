@@ -8,7 +8,7 @@ use Rattle.reading.specs.Bytes.{be4}
 use Rattle.reading.specs.Utf8.{utf8, longest-to, among}
 use Rattle.reading.specs.Numbers.{known, header-protocols}
 use Rattle.reading.specs.Cursor.{read-item, follow}
-use Rattle.reading.specs.Layout.{address-of, run-of, field, fields, last-number, opened, flows, flow, samples, datagram-to}
+use Rattle.reading.specs.Layout.{Mode, address-of, run-of, field, fields, last-number, opened, flows, flow, samples, datagram-to}
 use Rattle.reading.specs.Answer.{size, rows, header-of, no-header, stored, one}
 
 -- a datagram with one flow sample with one record of format 1008, an MPLS tunnel, whose name is `a`, and its pad `b`, `c` and `d`; a at 76
@@ -21,11 +21,11 @@ pub store : List ℕ
 store = replicate (3 * descriptor-words) 165
 
 -- three zeros, and three other bytes
-pub pad-free : one (input 97 1 128 255) store ≡ one (input 97 0 0 0) store
+pub pad-free : (mode : Mode) → one mode (input 97 1 128 255) store ≡ one mode (input 97 0 0 0) store
 unfolding input store be4 known header-protocols follow read-item address-of run-of field fields last-number opened flows flow samples datagram-to size rows header-of no-header stored one utf8 longest-to among
-pad-free = refl
+pad-free mode = refl
 
 -- accepted; and with 0xff for the one byte of the name, refused there
-pub payload-not : (one (input 97 0 0 0) store .code ≡ 0) × (one (input 255 0 0 0) store .code ≡ 7) × (one (input 255 0 0 0) store .at ≡ 76)
+pub payload-not : (mode : Mode) → (one mode (input 97 0 0 0) store .code ≡ 0) × (one mode (input 255 0 0 0) store .code ≡ 7) × (one mode (input 255 0 0 0) store .at ≡ 76)
 unfolding input store be4 known header-protocols follow read-item address-of run-of field fields last-number opened flows flow samples datagram-to size rows header-of no-header stored one utf8 longest-to among
-payload-not = (refl, refl, refl)
+payload-not mode = (refl, refl, refl)

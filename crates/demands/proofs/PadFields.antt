@@ -11,7 +11,7 @@ use lib.Seq.{take-take, length-take-le}
 use Rattle.reading.specs.Utf8.{_&_}
 use Rattle.reading.specs.Script.{four, eight, sixteen, Value, octets, address, part, Range, Forest, bare, tree, _⊕_, Found, nothing, Item, word, tested, block, Script, give, item, within, repeat}
 use Rattle.reading.specs.Cursor.{Place, Out, got, then, read-item, times, held-to, follow}
-use Rattle.reading.specs.Layout.{num, oct, Field, plain, mac, addr, list, segments, address-of, any-word, segment, run-of, field, fields, Row, _⟼_, _⟼_each_, last-number, opened, Fixed, fixed-rows, only, ranged, framed, pdu, flows, flow, counters, counter, samples, sample, header, datagram-to, datagram}
+use Rattle.reading.specs.Layout.{Mode, num, oct, Field, plain, mac, addr, list, segments, address-of, any-word, segment, run-of, field, fields, Row, _⟼_, _⟼_each_, last-number, opened, Fixed, fixed-rows, only, ranged, framed, pdu, flows, flow, counters, counter, samples, sample, header, datagram-to, datagram}
 use Rattle.reading.specs.Sizes.{longest-input, descriptor-words, depth-limit}
 use Rattle.reading.specs.Values.{alone, valued, reading}
 use Rattle.reading.specs.Answer.{from, nobody, size, room, one, unread, layout-at, layout-of, answered, read}
@@ -119,18 +119,18 @@ each-of (also h i j) (inside m) = each-of i m
 each-of (also h i j) (later m) = each-of j m
 
 -- the layout of a range, read alone
-abbrev own : Range → Script
-own r = alone (layout-of (r .kind) (r .format))
+abbrev own : Mode → Range → Script
+own mode r = alone (layout-of mode (r .kind) (r .format))
 
 -- a range lies in s and in t, and its layout, read alone from its start and held to it, gives the same of both
-record Same-fields (s t : List ℕ) (r : Range) : Type 0 where
+record Same-fields (mode : Mode) (s t : List ℕ) (r : Range) : Type 0 where
   in-s : r .span .start + r .span .count ≤ length s
   in-t : r .span .start + r .span .count ≤ length t
-  same : follow (own r) (up-to t r) (from (r .span .start)) ≡ follow (own r) (up-to s r) (from (r .span .start))
+  same : follow (own mode r) (up-to t r) (from (r .span .start)) ≡ follow (own mode r) (up-to s r) (from (r .span .start))
 
 -- what is so in a part of both is so in both
-widened : (s t : List ℕ) (m : ℕ) (r : Range) → Same-fields (take m s) (take m t) r → Same-fields s t r
-widened s t m r h =
+widened : (mode : Mode) (s t : List ℕ) (m : ℕ) (r : Range) → Same-fields mode (take m s) (take m t) r → Same-fields mode s t r
+widened mode s t m r h =
     let x = length-take m s in
     let y = length-take m t in
     let c : up-to (take m s) r ≡ up-to s r = take-take (r .span .start + r .span .count) m s (omega (arith, h .in-s)) in
@@ -140,34 +140,34 @@ widened s t m r h =
 -- ---- scripts whose ranges have the same fields
 
 -- each range that the script found in s has the same fields in a t that is alike
-abbrev Good : Script → Type 0
-Good sc = (s t : List ℕ) (p : Place) (a : Found) (q : Place) → Alike sc s t p a q → Each (Same-fields s t) (a .ranges)
+abbrev Good : Mode → Script → Type 0
+Good mode sc = (s t : List ℕ) (p : Place) (a : Found) (q : Place) → Alike sc s t p a q → Each (Same-fields mode s t) (a .ranges)
 
-ranges-are : {s t : List ℕ} {a b : Found} {p q : Place} → got a p ≡ got b q → Each (Same-fields s t) (a .ranges) → Each (Same-fields s t) (b .ranges)
-ranges-are {s} {t} {a} {b} e h = let x : a ≡ b = cc in subst (λ (c : Found). Each (Same-fields s t) (c .ranges)) x h
+ranges-are : {mode : Mode} {s t : List ℕ} {a b : Found} {p q : Place} → got a p ≡ got b q → Each (Same-fields mode s t) (a .ranges) → Each (Same-fields mode s t) (b .ranges)
+ranges-are {mode} {s} {t} {a} {b} e h = let x : a ≡ b = cc in subst (λ (c : Found). Each (Same-fields mode s t) (c .ranges)) x h
 
-good-none : Good (give nothing)
+good-none : (mode : Mode) → Good mode (give nothing)
 unfolding follow
-good-none s t p a q b = ranges-are (b .reads) none
+good-none mode s t p a q b = ranges-are (b .reads) none
 
-good-times : (sc : Script) → Good sc → (n : ℕ) (s t : List ℕ) (p : Place) (a : Found) (q : Place) → Alike-times n sc s t p a q → Each (Same-fields s t) (a .ranges)
+good-times : (mode : Mode) (sc : Script) → Good mode sc → (n : ℕ) (s t : List ℕ) (p : Place) (a : Found) (q : Place) → Alike-times n sc s t p a q → Each (Same-fields mode s t) (a .ranges)
 unfolding times
-good-times sc g zero s t p a q b = ranges-are (b .reads) none
-good-times sc g (suc n) s t p a q b =
+good-times mode sc g zero s t p a q b = ranges-are (b .reads) none
+good-times mode sc g (suc n) s t p a q b =
     let c = turn-goes n sc b in
-    subst (λ (f : Found). Each (Same-fields s t) (f .ranges)) (c .found) (each-joined (g s t p (c .one) (c .next) (c .first)) (good-times sc g n s t (c .next) (c .others) q (c .rest)))
+    subst (λ (f : Found). Each (Same-fields mode s t) (f .ranges)) (c .found) (each-joined (g s t p (c .one) (c .next) (c .first)) (good-times mode sc g n s t (c .next) (c .others) q (c .rest)))
 
-good-each : (n : ℕ) (sc : Script) → Good sc → Good (repeat n sc (λ a. give a))
+good-each : (mode : Mode) (n : ℕ) (sc : Script) → Good mode sc → Good mode (repeat n sc (λ a. give a))
 unfolding follow
-good-each n sc g s t p a q b = let c = repeat-goes n sc _ b in ranges-are (c .rest .reads) (good-times sc g n s t p (c .all) (c .next) (c .first))
+good-each mode n sc g s t p a q b = let c = repeat-goes n sc _ b in ranges-are (c .rest .reads) (good-times mode sc g n s t p (c .all) (c .next) (c .first))
 
 -- a good script that begins with a layout, which gives the same of s and t where it is read alone
-record Opens (l : List Field) (sc : Script) : Type 0 where
+record Opens (mode : Mode) (l : List Field) (sc : Script) : Type 0 where
   alone-same : (s t : List ℕ) (p : Place) (a : Found) (q : Place) → Alike sc s t p a q → follow (alone l) t (from (p .at)) ≡ follow (alone l) s (from (p .at))
-  good : Good sc
+  good : Good mode sc
 
-opens-fields : (l : List Field) (more : List Value → Script) → ((vs : List Value) → Good (more vs)) → Opens l (fields l more)
-opens-fields l more g = record {
+opens-fields : (mode : Mode) (l : List Field) (more : List Value → Script) → ((vs : List Value) → Good mode (more vs)) → Opens mode l (fields l more)
+opens-fields mode l more g = record {
   alone-same = λ s t p a q b.
       let c = fields-goes l more b in
       let o = onward (fields l more) s p (b .fits) (b .reads) in
@@ -175,30 +175,30 @@ opens-fields l more g = record {
   good = λ s t p a q b. let c = fields-goes l more b in g (c .value) s t (c .next) a q (c .rest);
 }
 
-either-opens : (b : Bool) {l m : List Field} {x y : Script} → Opens l x → Opens m y → Opens (cond b l m) (cond b x y)
-either-opens true f g = f
-either-opens false f g = g
+either-opens : (mode : Mode) (b : Bool) {l m : List Field} {x y : Script} → Opens mode l x → Opens mode m y → Opens mode (cond b l m) (cond b x y)
+either-opens mode true f g = f
+either-opens mode false f g = g
 
 -- a table, of which each row is good
-data Rows : List Row → Type 0 where
-  over : Rows []
-  flat : {g : ℕ} {l : List Field} {rest : List Row} → Rows rest → Rows ((g ⟼ l) ∷ rest)
-  counts : {g : ℕ} {l : List Field} {body : Script} {rest : List Row} → Good body → Rows rest → Rows ((g ⟼ l each body) ∷ rest)
+data Rows (mode : Mode) : List Row → Type 0 where
+  over : Rows mode []
+  flat : {g : ℕ} {l : List Field} {rest : List Row} → Rows mode rest → Rows mode ((g ⟼ l) ∷ rest)
+  counts : {g : ℕ} {l : List Field} {body : Script} {rest : List Row} → Good mode body → Rows mode rest → Rows mode ((g ⟼ l each body) ∷ rest)
 
-opens-rows : {rows : List Row} → Rows rows → (f : ℕ) → Opens (layout-at rows f) (opened rows f)
+opens-rows : {mode : Mode} {rows : List Row} → Rows mode rows → (f : ℕ) → Opens mode (layout-at rows f) (opened rows f)
 unfolding opened fields
-opens-rows over f = opens-fields [] (λ vs. give nothing) (λ vs. good-none)
-opens-rows (flat {g} {l} t) f = either-opens (eqb g f) (opens-fields l _ (λ vs. good-none)) (opens-rows t f)
-opens-rows (counts {g} {l} {body} h t) f = either-opens (eqb g f) (opens-fields l _ (λ vs. good-each (last-number vs) body h)) (opens-rows t f)
+opens-rows {mode} over f = opens-fields mode [] (λ vs. give nothing) (λ vs. good-none mode)
+opens-rows {mode} (flat {g} {l} t) f = either-opens mode (eqb g f) (opens-fields mode l _ (λ vs. good-none mode)) (opens-rows t f)
+opens-rows {mode} (counts {g} {l} {body} h t) f = either-opens mode (eqb g f) (opens-fields mode l _ (λ vs. good-each mode (last-number vs) body h)) (opens-rows t f)
 
 -- ---- frames
 
 -- an opaque that holds the range of this kind and format
-good-held : (kind format depth first : ℕ) (body : Script) → Opens (layout-of kind format) body → Good (within body (λ x a. give (only (ranged kind format depth first x (a .ranges)))))
+good-held : (mode : Mode) (kind format depth first : ℕ) (body : Script) → Opens mode (layout-of mode kind format) body → Good mode (within body (λ x a. give (only (ranged kind format depth first x (a .ranges)))))
 unfolding follow
-good-held kind format depth first body o s t p a q b = go (within-goes body _ b)
+good-held mode kind format depth first body o s t p a q b = go (within-goes body _ b)
   where
-    go : Within-goes body (λ x c. give (only (ranged kind format depth first x (c .ranges)))) s t p a q → Each (Same-fields s t) (a .ranges)
+    go : Within-goes body (λ x c. give (only (ranged kind format depth first x (c .ranges)))) s t p a q → Each (Same-fields mode s t) (a .ranges)
     go d =
         let w = d .read in
         let l = within-lies w in
@@ -212,48 +212,48 @@ good-held kind format depth first body o s t p a q b = go (within-goes body _ b)
           in-t = omega (arith, l .opened .start, l .opened .at, l .after, b .room);
           same = o .alone-same u v i (w .inner) (w .last) (d .inside);
         })
-        (each-as (widened s t (w .span .start + w .span .count)) (o .good u v i (w .inner) (w .last) (d .inside)))
+        (each-as (widened mode s t (w .span .start + w .span .count)) (o .good u v i (w .inner) (w .last) (d .inside)))
         none)
 
-good-framed : (kind depth : ℕ) (body : ℕ → Script) → ((f : ℕ) → Opens (layout-of kind f) (body f)) → Good (framed kind depth body)
-good-framed kind depth body o s t p a q b =
+good-framed : (mode : Mode) (kind depth : ℕ) (body : ℕ → Script) → ((f : ℕ) → Opens mode (layout-of mode kind f) (body f)) → Good mode (framed kind depth body)
+good-framed mode kind depth body o s t p a q b =
     let c = item-goes word _ (here-goes _ b) in
-    good-held kind (num (c .value)) depth (p .at) (body (num (c .value))) (o (num (c .value))) s t (c .next) a q (c .rest)
+    good-held mode kind (num (c .value)) depth (p .at) (body (num (c .value))) (o (num (c .value))) s t (c .next) a q (c .rest)
 
-good-pdu : (depth : ℕ) (body : Script) → Good body → Good (pdu depth body)
+good-pdu : (mode : Mode) (depth : ℕ) (body : Script) → Good mode body → Good mode (pdu depth body)
 unfolding follow fields layout-of
-good-pdu depth body g s t p a q b =
+good-pdu mode depth body g s t p a q b =
     let c = item-goes word _ (here-goes _ b) in
     let d = repeat-goes (num (c .value)) body _ (here-goes _ (c .rest)) in
     let l = times-onward (num (c .value)) body s (c .next) (d .first .fits) (d .first .reads) in
     ranges-are (d .rest .reads)
-    (also (record { in-s = omega (arith, l .0, l .1); in-t = omega (arith, l .0, d .first .room); same = refl }) (good-times body g (num (c .value)) s t (c .next) (d .all) (d .next) (d .first)) none)
+    (also (record { in-s = omega (arith, l .0, l .1); in-t = omega (arith, l .0, d .first .room); same = refl }) (good-times mode body g (num (c .value)) s t (c .next) (d .all) (d .next) (d .first)) none)
 
-good-flows : (inner : Script) → Good inner → Rows (flows inner)
+good-flows : (mode : Mode) (inner : Script) → Good mode inner → Rows mode (flows mode inner)
 unfolding flows
-good-flows inner g = search (flat, counts, over) depth 200
+good-flows mode inner g = search (flat, counts, over) depth 200
 
-opens-flow : (inner : Script) → Good inner → (f : ℕ) → Opens (layout-of 2 f) (opened (flows inner) f)
+opens-flow : (mode : Mode) (inner : Script) → Good mode inner → (f : ℕ) → Opens mode (layout-of mode 2 f) (opened (flows mode inner) f)
 unfolding layout-of flows
-opens-flow inner g = opens-rows (good-flows inner g)
+opens-flow mode inner g = opens-rows (good-flows mode inner g)
 
-good-flow : (longest-input left : ℕ) → Good (flow longest-input left)
+good-flow : (mode : Mode) (longest-input left : ℕ) → Good mode (flow mode longest-input left)
 unfolding flow follow
-good-flow longest-input zero = λ s t p a q b. never (b .reads)
-good-flow longest-input (suc left) =
+good-flow mode longest-input zero = λ s t p a q b. never (b .reads)
+good-flow mode longest-input (suc left) =
     let d = longest-input - left in
-    good-framed 2 d (opened (flows (pdu d (flow longest-input left)))) (opens-flow (pdu d (flow longest-input left)) (good-pdu d (flow longest-input left) (good-flow longest-input left)))
+    good-framed mode 2 d (opened (flows mode (pdu d (flow mode longest-input left)))) (opens-flow mode (pdu d (flow mode longest-input left)) (good-pdu mode d (flow mode longest-input left) (good-flow mode longest-input left)))
 
-good-fixed : (t : List Fixed) → Rows (fixed-rows t)
-good-fixed [] = over
-good-fixed (x ∷ t) = flat (good-fixed t)
+good-fixed : (mode : Mode) (t : List Fixed) → Rows mode (fixed-rows t)
+good-fixed mode [] = over
+good-fixed mode (x ∷ t) = flat (good-fixed mode t)
 
-good-sample : (levels : ℕ) → Good (sample levels)
+good-sample : (mode : Mode) (levels : ℕ) → Good mode (sample mode levels)
 unfolding samples layout-of
-good-sample n =
-    let f : Good (flow n n) = good-flow n n in
-    let c : Good counter = good-framed 3 1 (opened (fixed-rows counters)) (opens-rows (good-fixed counters)) in
-    good-framed 1 0 (opened (samples n)) (opens-rows (counts f (counts c (counts f (counts c (counts f over))))))
+good-sample mode n =
+    let f : Good mode (flow mode n n) = good-flow mode n n in
+    let c : Good mode counter = good-framed mode 3 1 (opened (fixed-rows counters)) (opens-rows (good-fixed mode counters)) in
+    good-framed mode 1 0 (opened (samples mode n)) (opens-rows (counts f (counts c (counts f (counts c (counts f over))))))
 
 -- ---- a datagram
 
@@ -263,15 +263,15 @@ ended-at sc s m p {a} {q} h i j e =
     let n = length-take-le m s j in
     longer sc (take m s) (q .at) p (omega (arith, n)) h (ap (λ (u : List ℕ). follow sc u p) (take-take (q .at) m s i) ∙ ended sc s p (omega arith) e)
 
-good-datagram : (levels : ℕ) → Good (datagram-to levels)
+good-datagram : (mode : Mode) (levels : ℕ) → Good mode (datagram-to mode levels)
 unfolding datagram-to follow layout-of
-good-datagram levels s t p a q b =
+good-datagram mode levels s t p a q b =
     let c = fields-goes header _ (here-goes _ b) in
     let n = last-number (c .value) in
-    let d = repeat-goes n (sample levels) _ (c .rest) in
+    let d = repeat-goes n (sample mode levels) _ (c .rest) in
     let e = alone-first header s p (c .first) in
     let l = onward (alone header) s p (b .fits) e in
-    let k = times-onward n (sample levels) s (c .next) (d .first .fits) (d .first .reads) in
+    let k = times-onward n (sample mode levels) s (c .next) (d .first .fits) (d .first .reads) in
     let m = p .at + (d .next .at - p .at) in
     let x : m ≤ length s = omega (arith, l .0, k .0, k .1) in
     let y : m ≤ length t = omega (arith, l .0, k .0, d .first .room) in
@@ -285,36 +285,36 @@ good-datagram levels s t p a q b =
           both-anew (alone header) (take m s) (take m t) p (rw (length-take-le m s x) (omega arith)) (rw (length-take-le m t y) (omega arith))
           (ended-at (alone header) s m p (l .0) z x e) (ended-at (alone header) t m p (l .0) z y (alone-first header t p (c .again)));
     })
-    (good-times (sample levels) (good-sample levels) n s t (c .next) (d .all) (d .next) (d .first))
+    (good-times mode (sample mode levels) (good-sample mode levels) n s t (c .next) (d .all) (d .next) (d .first))
     none)
 
 -- ---- field reading
 
 -- of a range, whatever kind and format is asked for, it gives the same of s and t
-abbrev pub Read-alike : (s t : List ℕ) → Range → Type 0
-Read-alike s t r = (ak af : ℕ) → read ak af t (r .kind) (r .format) (r .span .start) (r .span .count) ≡ read ak af s (r .kind) (r .format) (r .span .start) (r .span .count)
+abbrev pub Read-alike : Mode → (s t : List ℕ) → Range → Type 0
+Read-alike mode s t r = (ak af : ℕ) → read mode ak af t (r .kind) (r .format) (r .span .start) (r .span .count) ≡ read mode ak af s (r .kind) (r .format) (r .span .start) (r .span .count)
 
-read-alike : (s t : List ℕ) (r : Range) → length s ≤ longest-input → length t ≤ longest-input → Same-fields s t r → Read-alike s t r
+read-alike : (mode : Mode) (s t : List ℕ) (r : Range) → length s ≤ longest-input → length t ≤ longest-input → Same-fields mode s t r → Read-alike mode s t r
 unfolding read reading
-read-alike s t r h k f ak af =
+read-alike mode s t r h k f ak af =
     let x = r .span .start + r .span .count in
     rw (le-leb (length s) longest-input h, le-leb (length t) longest-input k, le-leb x (length s) (f .in-s), le-leb x (length t) (f .in-t))
     (asked (eqb (r .kind) ak) (eqb (r .format) af) (eqb-true (r .kind) ak) (eqb-true (r .format) af))
   where
     asked : (b c : Bool) → (b ≡ true → r .kind ≡ ak) → (c ≡ true → r .format ≡ af)
-        → answered (cond (b & c) (reading (layout-of ak af) (up-to t r) (from (r .span .start))) (unread (layout-of ak af) 11))
-        ≡ answered (cond (b & c) (reading (layout-of ak af) (up-to s r) (from (r .span .start))) (unread (layout-of ak af) 11))
-    asked true true i j = ap (λ (o : Out Found). answered (valued (layout-of ak af) o)) (rw (i refl, j refl) at (f .same))
+        → answered (cond (b & c) (reading (layout-of mode ak af) (up-to t r) (from (r .span .start))) (unread (layout-of mode ak af) 11))
+        ≡ answered (cond (b & c) (reading (layout-of mode ak af) (up-to s r) (from (r .span .start))) (unread (layout-of mode ak af) 11))
+    asked true true i j = ap (λ (o : Out Found). answered (valued (layout-of mode ak af) o)) (rw (i refl, j refl) at (f .same))
     asked true false i j = refl
     asked false c i j = refl
 
 -- of each descriptor of an accepted input
-pub pads-free-fields : (s t w : List ℕ) {f : Found} {bytes items : ℕ} (r : Allowed 0 s f bytes items) → one s w .code ≡ 0 → length t ≤ longest-input → Same-but-pads r t
-    → (i : ℕ) → i < one s w .needed → Read-alike s t (range (one s w .store) i)
-pads-free-fields s t w {f} {bytes} {items} r z k b i h =
-    let a = accepted-reads one-reads s w z in
-    let e = good-datagram (r .reading .levels) s t (from 0) f (place bytes items) (reading-alike r b) in
+pub pads-free-fields : (mode : Mode) (s t w : List ℕ) {f : Found} {bytes items : ℕ} (r : Allowed mode 0 s f bytes items) → one mode s w .code ≡ 0 → length t ≤ longest-input → Same-but-pads mode r t
+    → (i : ℕ) → i < one mode s w .needed → Read-alike mode s t (range (one mode s w .store) i)
+pads-free-fields mode s t w {f} {bytes} {items} r z k b i h =
+    let a = accepted-reads (one-reads mode) s w z in
+    let e = good-datagram mode (r .reading .levels) s t (from 0) f (place bytes items) (reading-alike r b) in
     let g = f .ranges in
-    let u = reading-answers one-reads s w (a .short) r (subst (λ (x : Found). size (x .ranges) ≤ room w) (one-whole one-reads s (a .reading) r .0) (a .fits)) in
+    let u = reading-answers (one-reads mode) s w (a .short) r (subst (λ (x : Found). size (x .ranges) ≤ room w) (one-whole (one-reads mode) s (a .reading) r .0) (a .fits)) in
     let m = stands-in g 0 nobody i (drop (descriptor-words * size g) w) (rw (u .0 .needed) at h) in
-    subst (λ (l : List ℕ). Read-alike s t (range l i)) (sym (u .0 .store)) (subst (Read-alike s t) (range-is _ i) (read-alike s t _ (a .short) k (each-of e (m .1))))
+    subst (λ (l : List ℕ). Read-alike mode s t (range l i)) (sym (u .0 .store)) (subst (Read-alike mode s t) (range-is _ i) (read-alike mode s t _ (a .short) k (each-of e (m .1))))

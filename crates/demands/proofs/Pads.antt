@@ -23,7 +23,7 @@ use Rattle.reading.proofs.Complete.{complete-item}
 use Rattle.reading.proofs.Bounds.{Owes, owes, owes-item}
 use Rattle.reading.proofs.Counts.{repeat-is}
 use Rattle.reading.proofs.Room.{last-place}
-use Rattle.reading.specs.Layout.{datagram-to, datagram}
+use Rattle.reading.specs.Layout.{Mode, datagram-to, datagram}
 use Rattle.reading.specs.Answer.{from, one}
 use Rattle.demands.specs.Readings.{Allowed}
 use Rattle.demands.specs.Pads.{Same-but-pads}
@@ -499,22 +499,22 @@ again (repeat n body k) s t p a q b =
 -- ---- one datagram
 
 -- the reading of a datagram that s begins with, and an input that is the same but for its pads
-pub reading-alike : {s t : List ℕ} {f : Found} {bytes items : ℕ} (r : Allowed 0 s f bytes items) → Same-but-pads r t → Alike (datagram-to (r .reading .levels)) s t (from 0) f (place bytes items)
-reading-alike {s} {t} {f} {bytes} {items} r b =
+pub reading-alike : {mode : Mode} {s t : List ℕ} {f : Found} {bytes items : ℕ} (r : Allowed mode 0 s f bytes items) → Same-but-pads mode r t → Alike (datagram-to mode (r .reading .levels)) s t (from 0) f (place bytes items)
+reading-alike {mode} {s} {t} {f} {bytes} {items} r b =
     let n = r .reading .levels in
     let g = r .reading .begins in
     record {
       fits = omega arith;
-      reads = given n s (r .reading) (no-deeper n 0 (g .read) f items (g .is));
+      reads = given mode n s (r .reading) (no-deeper mode n 0 (g .read) f items (g .is));
       room = b .long;
-      alike = λ i o h. b .alike i (o .1) (λ x. h (agree (datagram-to n) 0 (g .read) f items (g .is) s (g .rest) 0 (record { there = g .joined; fits = rw (g .joined, length-append) (omega arith) }) i .0 x));
+      alike = λ i o h. b .alike i (o .1) (λ x. h (agree (datagram-to mode n) 0 (g .read) f items (g .is) s (g .rest) 0 (record { there = g .joined; fits = rw (g .joined, length-append) (omega arith) }) i .0 x));
     }
 
 -- so t begins with a datagram in which the same is found
-pub reading-again : {s t : List ℕ} {f : Found} {bytes items : ℕ} (r : Allowed 0 s f bytes items) → Same-but-pads r t → Allowed 0 t f bytes items
-reading-again {s} {t} {f} {bytes} {items} r b =
+pub reading-again : {mode : Mode} {s t : List ℕ} {f : Found} {bytes items : ℕ} (r : Allowed mode 0 s f bytes items) → Same-but-pads mode r t → Allowed mode 0 t f bytes items
+reading-again {mode} {s} {t} {f} {bytes} {items} r b =
     let n = r .reading .levels in
-    let d = sound (datagram-to n) t (from 0) f (place bytes items) (omega arith) (again (datagram-to n) s t (from 0) f (place bytes items) (reading-alike r b)) in
+    let d = sound (datagram-to mode n) t (from 0) f (place bytes items) (omega arith) (again (datagram-to mode n) s t (from 0) f (place bytes items) (reading-alike r b)) in
     record {
       reading = record {
         levels = n;
@@ -523,17 +523,17 @@ reading-again {s} {t} {f} {bytes} {items} r b =
           rest = d .rest;
           joined = d .stands .there;
           long = sym (d .at ∙ zero-add _);
-          is = subst (λ (m : ℕ). Is (datagram-to n) 0 (d .read) f m) (sym (d .steps ∙ zero-add _)) (d .is);
+          is = subst (λ (m : ℕ). Is (datagram-to mode n) 0 (d .read) f m) (sym (d .steps ∙ zero-add _)) (d .is);
         };
       };
       shallow = r .shallow;
     }
 
-module _ (s t w : List ℕ) where
+module _ (mode : Mode) (s t w : List ℕ) where
   -- two inputs within the limit that are read alike are answered alike
-  alike-answered : length s ≤ longest-input → length t ≤ longest-input → follow datagram t (from 0) ≡ follow datagram s (from 0) → one t w ≡ one s w
+  alike-answered : length s ≤ longest-input → length t ≤ longest-input → follow (datagram mode) t (from 0) ≡ follow (datagram mode) s (from 0) → one mode t w ≡ one mode s w
   unfolding one
   alike-answered h k e = rw (le-leb (length s) longest-input h, le-leb (length t) longest-input k, e)
 
-  pub pads-free : {f : Found} {bytes items : ℕ} (r : Allowed 0 s f bytes items) → length s ≤ longest-input → length t ≤ longest-input → Same-but-pads r t → one t w ≡ one s w
-  pads-free r h k b = let q = reading-again r b in alike-answered h k (given depth-limit t (q .reading) (q .shallow) ∙ sym (given depth-limit s (r .reading) (r .shallow)))
+  pub pads-free : {f : Found} {bytes items : ℕ} (r : Allowed mode 0 s f bytes items) → length s ≤ longest-input → length t ≤ longest-input → Same-but-pads mode r t → one mode t w ≡ one mode s w
+  pads-free r h k b = let q = reading-again r b in alike-answered h k (given mode depth-limit t (q .reading) (q .shallow) ∙ sym (given mode depth-limit s (r .reading) (r .shallow)))

@@ -11,7 +11,7 @@ use lib.Dec.{leb}
 use lib.ListN.{length, drop}
 use Rattle.reading.specs.Script.{Value, Forest, bare, tree, Found}
 use Rattle.reading.specs.Cursor.{Place, Out, got, stop, follow}
-use Rattle.reading.specs.Layout.{datagram}
+use Rattle.reading.specs.Layout.{Mode, datagram}
 use Rattle.reading.specs.Sizes.{longest-input, descriptor-words, depth-limit}
 use Rattle.reading.specs.Answer.{limited, from, nobody, size, rows, room, Header, header-of, no-header, Answer, refused, stored, one, datagrams, run}
 use Rattle.reading.proofs.Items.{either}
@@ -128,7 +128,7 @@ module _ {w : List ℕ} {n size : ℕ} (p : In-place w n size) where
 abbrev pub Placed : List ℕ → Answer → Type 0
 Placed s a = a .code ≡ 0 → In-place (a .store) (a .needed) (length s)
 
-module _ (s w : List ℕ) where
+module _ (mode : Mode) (s w : List ℕ) where
   stored-placed : (head : List Value → Header) (o : Out Found) → Sure o → ((a : Found) (q : Place) → o ≡ got a q → Nested top 0 (length s) (a .ranges))
       → ((a : Found) (q : Place) → o ≡ got a q → 4 * size (a .ranges) ≤ length s) → length s ≤ longest-input → Placed s (stored head o w)
   unfolding stored
@@ -144,14 +144,14 @@ module _ (s w : List ℕ) where
       go true e = h (leb-true (length s) longest-input e)
       go false e = λ z. absurd (omega arith)
 
-  pub one-placed : Placed s (one s w)
+  pub one-placed : Placed s (one mode s w)
   unfolding one
   one-placed =
-      within-limit _ (stored-placed header-of (follow datagram s (from 0)) (sure-datagram s (from 0))
-      (λ a q e. later (length s) (datagram-on depth-limit s (from 0) (omega arith) e .1) (datagram-nested depth-limit s (from 0) a q (omega arith) e)) (one-size s))
+      within-limit _ (stored-placed header-of (follow (datagram mode) s (from 0)) (sure-datagram mode s (from 0))
+      (λ a q e. later (length s) (datagram-on mode depth-limit s (from 0) (omega arith) e .1) (datagram-nested mode depth-limit s (from 0) a q (omega arith) e)) (one-size mode s))
 
-  pub run-placed : Placed s (run s w)
+  pub run-placed : Placed s (run mode s w)
   unfolding run
   run-placed =
-      within-limit _ (stored-placed (λ _. no-header) (datagrams (length s) s (from 0)) (sure-run (length s) s (from 0))
-      (λ a q e. later (length s) (thrifty-datagrams s (length s) (from 0) (omega arith) e .1) (run-nested (length s) s (from 0) a q (omega arith) e)) (run-size s))
+      within-limit _ (stored-placed (λ _. no-header) (datagrams mode (length s) s (from 0)) (sure-run mode (length s) s (from 0))
+      (λ a q e. later (length s) (thrifty-datagrams mode s (length s) (from 0) (omega arith) e .1) (run-nested mode (length s) s (from 0) a q (omega arith) e)) (run-size mode s))

@@ -8,7 +8,7 @@ use native.Mathlib.Nat.{zero-add}
 use lib.ListN.{length}
 use Rattle.reading.specs.Script.{Forest, Found}
 use Rattle.reading.specs.Cursor.{Out, got, stop, then}
-use Rattle.reading.specs.Layout.{only}
+use Rattle.reading.specs.Layout.{Mode, only}
 use Rattle.reading.specs.Answer.{limited, from, no-header, Answer, refused, stored, datagrams, run}
 use Rattle.reading.proofs.Stands.{place}
 use Rattle.reading.proofs.Runs.{run-from}
@@ -24,31 +24,31 @@ use Rattle.demands.proofs.Tried.{Tried, done, halted, run-tried, run-re
 abbrev ranges-out : Out Found → Out Forest
 ranges-out o = then o (λ f q. got (f .ranges) q)
 
-module _ (s : List ℕ) where
-  pub run-out : {g : Forest} {end n : ℕ} → Run s 0 g end n → datagrams (length s) s (from 0) ≡ got (only g) (place end n)
+module _ (mode : Mode) (s : List ℕ) where
+  pub run-out : {g : Forest} {end n : ℕ} → Run mode s 0 g end n → datagrams mode (length s) s (from 0) ≡ got (only g) (place end n)
   unfolding run-from
-  run-out {g} {end} {n} t = run-read s 0 t ∙ ap (λ (k : ℕ). got (only g) (place end k)) (zero-add n)
+  run-out {g} {end} {n} t = run-read mode s 0 t ∙ ap (λ (k : ℕ). got (only g) (place end k)) (zero-add n)
 
-  run-halt : {c i n : ℕ} → Run-stops s 0 c i n → datagrams (length s) s (from 0) ≡ stop c i n
+  run-halt : {c i n : ℕ} → Run-stops mode s 0 c i n → datagrams mode (length s) s (from 0) ≡ stop c i n
   unfolding run-from
-  run-halt {c} {i} {n} t = run-stopped s 0 t ∙ ap (λ (k : ℕ). stop c i k) (zero-add n)
+  run-halt {c} {i} {n} t = run-stopped mode s 0 t ∙ ap (λ (k : ℕ). stop c i k) (zero-add n)
 
-  says : {o : Out Found} → Tried s (from 0) o → Says a-run s (ranges-out o)
-  says (done {a} {q} n e t) = read (subst (λ (k : ℕ). Run s 0 (a .ranges) (q .at) k) (sym (e ∙ zero-add n)) t)
-  says (halted {c} {i} {m} n e t) = stopped (subst (λ (k : ℕ). Run-stops s 0 c i k) (sym (e ∙ zero-add n)) t)
+  says : {o : Out Found} → Tried mode s (from 0) o → Says (a-run mode) s (ranges-out o)
+  says (done {a} {q} n e t) = read (subst (λ (k : ℕ). Run mode s 0 (a .ranges) (q .at) k) (sym (e ∙ zero-add n)) t)
+  says (halted {c} {i} {m} n e t) = stopped (subst (λ (k : ℕ). Run-stops mode s 0 c i k) (sym (e ∙ zero-add n)) t)
 
-pub run-reads : Reads a-run run
+pub run-reads : (mode : Mode) → Reads (a-run mode) (run mode)
 unfolding shown stored run
-run-reads = record {
-  outcome = λ s. ranges-out (datagrams (length s) s (from 0));
-  says = λ s. says s (run-tried (length s) s (from 0) (omega arith) (omega arith));
-  is-read = λ s g end n t. ap ranges-out (run-out s t);
-  is-stopped = λ s c i n t. ap ranges-out (run-halt s t);
-  sure = λ s. sure-then (sure-run (length s) s (from 0)) (λ f q. fine);
-  small = λ s g end n t. run-size s (only g) (place end n) (run-out s t);
-  answer = λ s w. ap (λ (a : Answer). limited s a (refused 1 0 0 0 w)) (same w (datagrams (length s) s (from 0)));
+run-reads mode = record {
+  outcome = λ s. ranges-out (datagrams mode (length s) s (from 0));
+  says = λ s. says mode s (run-tried mode (length s) s (from 0) (omega arith) (omega arith));
+  is-read = λ s g end n t. ap ranges-out (run-out mode s t);
+  is-stopped = λ s c i n t. ap ranges-out (run-halt mode s t);
+  sure = λ s. sure-then (sure-run mode (length s) s (from 0)) (λ f q. fine);
+  small = λ s g end n t. run-size mode s (only g) (place end n) (run-out mode s t);
+  answer = λ s w. ap (λ (a : Answer). limited s a (refused 1 0 0 0 w)) (same w (datagrams mode (length s) s (from 0)));
 }
   where
-    same : (w : List ℕ) (o : Out Found) → stored (λ _. no-header) o w ≡ shown a-run (ranges-out o) w
+    same : (w : List ℕ) (o : Out Found) → stored (λ _. no-header) o w ≡ shown (a-run mode) (ranges-out o) w
     same w (got a q) = refl
     same w (stop c i n) = refl

@@ -10,7 +10,7 @@ use lib.ListN.{length, take, drop, length-append, length-drop, take-append-drop}
 use lib.Seq.{length-take-le, take-take, take-at, drop-at, take-append-le}
 use Rattle.reading.specs.Script.{Found, Item, Script}
 use Rattle.reading.specs.Grammar.{Opaque}
-use Rattle.reading.specs.Layout.{datagram}
+use Rattle.reading.specs.Layout.{Mode, datagram}
 use Rattle.reading.proofs.Stands.{drop-take}
 use Rattle.reading.proofs.Faults.{fair-item, test-code, Coded, refuses, stands, reads, opens, repeats}
 use Rattle.reading.proofs.Codes.{coded-datagram}
@@ -134,18 +134,18 @@ unseen (repeats i k) (past-all x y g m l e f many t) z d h =
     let p = spans t .0 in
     past-all x (drop (length x) d) g m l (same-front h x y e p) f many (unseen (k g) t z (drop (length x) d) (same-back h x y e p))
 
-pub record-unseen : (s t : List ℕ) (i n : ℕ) → Stops datagram 0 s 8 i n → length t ≡ length s → take i t ≡ take i s → Stops datagram 0 t 8 i n
-record-unseen s t i n h l e = unseen coded-datagram h refl t (record { long = l; alike = rw sub-zero e })
+pub record-unseen : (mode : Mode) (s t : List ℕ) (i n : ℕ) → Stops (datagram mode) 0 s 8 i n → length t ≡ length s → take i t ≡ take i s → Stops (datagram mode) 0 t 8 i n
+record-unseen mode s t i n h l e = unseen (coded-datagram mode) h refl t (record { long = l; alike = rw sub-zero e })
 
 -- ---- and so does a run
 
 -- a run stops no sooner than it starts
-run-spans : {s : List ℕ} {at c i n : ℕ} → Run-stops s at c i n → at ≤ i
+run-spans : {mode : Mode} {s : List ℕ} {at c i n : ℕ} → Run-stops mode s at c i n → at ≤ i
 run-spans (this l t z) = spans t .0
 run-spans (later f bytes items m d e t) = let r = run-spans t in omega (arith, r)
 
 -- two inputs that are as long, and alike before i
-module _ (s t : List ℕ) (i : ℕ) (long : length t ≡ length s) (alike : take i t ≡ take i s) where
+module _ (mode : Mode) (s t : List ℕ) (i : ℕ) (long : length t ≡ length s) (alike : take i t ≡ take i s) where
   alike-at : (at : ℕ) → at ≤ i → Same at i (drop at s) (drop at t)
   alike-at at l =
       let m : at + (i - at) ≡ i = omega arith in
@@ -155,7 +155,7 @@ module _ (s t : List ℕ) (i : ℕ) (long : length t ≡ length s) (alike : take
       }
 
   -- a datagram before i is read alike
-  datagram-alike : {at : ℕ} {f : Found} {bytes items : ℕ} → at + bytes ≤ i → Datagram-at s at f bytes items → Datagram-at t at f bytes items
+  datagram-alike : {at : ℕ} {f : Found} {bytes items : ℕ} → at + bytes ≤ i → Datagram-at mode s at f bytes items → Datagram-at mode t at f bytes items
   datagram-alike {at} l d =
       let b = d .allowed .reading .begins in
       record {
@@ -175,9 +175,9 @@ module _ (s t : List ℕ) (i : ℕ) (long : length t ≡ length s) (alike : take
         };
       }
 
-  run-alike : {at c n : ℕ} → c ≡ 8 → Run-stops s at c i n → Run-stops t at c i n
-  run-alike {at} e (this l h z) = let k = spans h .0 in this {at = at} (omega (arith, l, long)) (unseen coded-datagram h e (drop at t) (alike-at at k)) z
+  run-alike : {at c n : ℕ} → c ≡ 8 → Run-stops mode s at c i n → Run-stops mode t at c i n
+  run-alike {at} e (this l h z) = let k = spans h .0 in this {at = at} (omega (arith, l, long)) (unseen (coded-datagram mode) h e (drop at t) (alike-at at k)) z
   run-alike e (later f bytes items m d g r) = later f bytes items m (datagram-alike (run-spans r) d) g (run-alike e r)
 
-pub run-unseen : (s t : List ℕ) (i n : ℕ) → Run-stops s 0 8 i n → length t ≡ length s → take i t ≡ take i s → Run-stops t 0 8 i n
-run-unseen s t i n h l e = run-alike s t i l e refl h
+pub run-unseen : (mode : Mode) (s t : List ℕ) (i n : ℕ) → Run-stops mode s 0 8 i n → length t ≡ length s → take i t ≡ take i s → Run-stops mode t 0 8 i n
+run-unseen mode s t i n h l e = run-alike mode s t i l e refl h

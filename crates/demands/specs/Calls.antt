@@ -2,6 +2,7 @@
 use mathlib.Core.List.{List}
 use Prim.Native.Nat.{ℕ}
 use Rattle.reading.specs.Answer.{Answer, one, run}
+use Rattle.reading.specs.Layout.{Mode}
 use Rattle.demands.specs.Itemised.{Subject, a-datagram, a-run}
 
 -- what is answered to an input and a store
@@ -9,6 +10,6 @@ abbrev pub Call : Type 0
 Call = (input store : List ℕ) → Answer
 
 -- `decode` answers `one`, and `decode_run` answers `run`
-pub data Public : Subject → Call → Type 1 where
-  decode : Public a-datagram one
-  decode-run : Public a-run run
+pub data Public (mode : Mode) : Subject → Call → Type 1 where
+  decode : Public mode (a-datagram mode) (one mode)
+  decode-run : Public mode (a-run mode) (run mode)

@@ -9,7 +9,7 @@ use lib.ListN.{take, drop, getD}
 use Rattle.reading.specs.Numbers.{known}
 use Rattle.reading.specs.Script.{Value, Range, Forest, tree, Found, nothing, Script, give, repeat}
 use Rattle.reading.specs.Grammar.{Is}
-use Rattle.reading.specs.Layout.{Row, last-number, fixed-rows, pdu, flows, flow, counters, samples, sample}
+use Rattle.reading.specs.Layout.{Mode, Row, last-number, fixed-rows, pdu, flows, flow, counters, samples, sample}
 use Rattle.reading.specs.Sizes.{descriptor-words, depth-limit}
 use Rattle.reading.specs.Answer.{size, layout-of, read}
 use Rattle.demands.specs.FieldsItemised.{Fields-reading}
@@ -48,12 +48,12 @@ more-of [] f = λ _. give nothing
 more-of (r ∷ rest) f = cond (eqb (r .format) f) (r .more) (more-of rest f)
 
 -- what the grammar reads behind the fields, by their values: so many samples in a datagram, and what the row has; a flow record's PDUs have its depth
-unfoldable pub follows : (kind format depth : ℕ) → List Value → Script
-follows zero f d vs = repeat (last-number vs) (sample depth-limit) (λ a. give a)
-follows (suc zero) f d vs = more-of (samples depth-limit) f vs
-follows (suc (suc zero)) f d vs = more-of (flows (pdu d (flow depth-limit (depth-limit - d)))) f vs
-follows (suc (suc (suc zero))) f d vs = more-of (fixed-rows counters) f vs
-follows (suc (suc (suc (suc k)))) f d vs = give nothing
+unfoldable pub follows : Mode → (kind format depth : ℕ) → List Value → Script
+follows mode zero f d vs = repeat (last-number vs) (sample mode depth-limit) (λ a. give a)
+follows mode (suc zero) f d vs = more-of (samples mode depth-limit) f vs
+follows mode (suc (suc zero)) f d vs = more-of (flows mode (pdu d (flow mode depth-limit (depth-limit - d)))) f vs
+follows mode (suc (suc (suc zero))) f d vs = more-of (fixed-rows counters) f vs
+follows mode (suc (suc (suc (suc k)))) f d vs = give nothing
 
 -- the range r stands in a forest, with `inner` inside it
 pub data Stands-in (r : Range) (inner : Forest) : Forest → Type 0 where
@@ -63,22 +63,22 @@ pub data Stands-in (r : Range) (inner : Forest) : Forest → Type 0 where
 
 -- the range r of the reading of s that has the ranges g: it stands in g, with `inner` inside it; it begins with bytes that are its layout, and field reading
 -- answers just that; behind them are the bytes of what follows these values, of which `inner` are the ranges
-pub record Fields-are (s : List ℕ) (g : Forest) (r : Range) : Type 0 where
+pub record Fields-are (mode : Mode) (s : List ℕ) (g : Forest) (r : Range) : Type 0 where
   pub inner : Forest
   pub stands : Stands-in r inner g
   pub values : List Value
   pub bytes : ℕ
   pub items : ℕ
-  pub reading : Fields-reading (layout-of (r .kind) (r .format)) (r .span .start) (take (r .span .count) (drop (r .span .start) s)) values bytes items
-  pub answer : read (r .kind) (r .format) s (r .kind) (r .format) (r .span .start) (r .span .count) ≡ record { code = 0; at = r .span .start + bytes; steps = items; values = values }
+  pub reading : Fields-reading (layout-of mode (r .kind) (r .format)) (r .span .start) (take (r .span .count) (drop (r .span .start) s)) values bytes items
+  pub answer : read mode (r .kind) (r .format) s (r .kind) (r .format) (r .span .start) (r .span .count) ≡ record { code = 0; at = r .span .start + bytes; steps = items; values = values }
   pub next : List ℕ
   pub rest : List ℕ
   pub joined : reading .rest ≡ next ++ rest
   pub found : Found
   pub more : ℕ
-  pub holds : Is (follows (r .kind) (r .format) (r .depth) values) (r .span .start + bytes) next found more
+  pub holds : Is (follows mode (r .kind) (r .format) (r .depth) values) (r .span .start + bytes) next found more
   pub ranges : inner ≡ found .ranges
 
 -- so it is of each descriptor of a store in which the rows of g stand, if it has fields
-abbrev pub All-fields : List ℕ → Forest → List ℕ → Type 0
-All-fields s g store = (i : ℕ) → i < size g → has-fields (range store i .kind) (range store i .format) ≡ true → Fields-are s g (range store i)
+abbrev pub All-fields : Mode → List ℕ → Forest → List ℕ → Type 0
+All-fields mode s g store = (i : ℕ) → i < size g → has-fields (range store i .kind) (range store i .format) ≡ true → Fields-are mode s g (range store i)

@@ -5,7 +5,7 @@ use mathlib.Core.Path.{_≡_}
 use mathlib.Core.List.{List, _++_}
 use lib.ListN.{length, drop}
 use Rattle.reading.specs.Script.{Forest, Found}
-use Rattle.reading.specs.Layout.{datagram}
+use Rattle.reading.specs.Layout.{Mode, datagram}
 use Rattle.reading.specs.Answer.{nobody, size, rows, room, Header, header-of, no-header, Answer, refused}
 use Rattle.reading.specs.Sizes.{longest-input, descriptor-words}
 use Rattle.demands.specs.Stops.{Stops}
@@ -22,12 +22,12 @@ pub record Subject : Type 1 where
   pub head : Finding → Header
 
 -- one datagram
-abbrev pub a-datagram : Subject
-a-datagram = record { Finding = Found; Whole = Allowed 0; Stopped = Stops datagram 0; ranges = λ f. f .ranges; head = λ f. header-of (f .values) }
+abbrev pub a-datagram : Mode → Subject
+a-datagram mode = record { Finding = Found; Whole = Allowed mode 0; Stopped = Stops (datagram mode) 0; ranges = λ f. f .ranges; head = λ f. header-of (f .values) }
 
 -- a run of them, which has no header
-abbrev pub a-run : Subject
-a-run = record { Finding = Forest; Whole = λ s. Run s 0; Stopped = λ s. Run-stops s 0; ranges = λ g. g; head = λ _. no-header }
+abbrev pub a-run : Mode → Subject
+a-run mode = record { Finding = Forest; Whole = λ s. Run mode s 0; Stopped = λ s. Run-stops mode s 0; ranges = λ g. g; head = λ _. no-header }
 
 module _ (t : Subject) where
   -- what is answered where a reading that finds x and ends there is accepted into the store w

@@ -5,7 +5,7 @@ use mathlib.Core.List.{List, [], _∷_, _++_}
 use lib.ListN.{length, take, drop}
 use Rattle.reading.specs.Script.{Value, Forest, Found, Script, give, refuse, here, item, within, repeat}
 use Rattle.reading.specs.Grammar.{Meaning, Many, Is}
-use Rattle.reading.specs.Layout.{datagram-to, datagram}
+use Rattle.reading.specs.Layout.{Mode, datagram-to, datagram}
 use Rattle.reading.specs.Values.{alone}
 use Rattle.reading.specs.Answer.{layout-of}
 use Rattle.reading.specs.Sizes.{longest-input}
@@ -44,16 +44,16 @@ firsts-before {o = o} (among {body = body} j x y a m l k e f r t) = firsts-of-ma
 firsts-before {o = o} (past-all {c} {body} x y a m l e f r t) = firsts-of-many c (Is body) (firsts body) o x a m r ++ firsts-before t
 
 -- of each item of a datagram
-abbrev pub firsts-of : {o : ℕ} {b : List ℕ} {f : Found} {bytes items : ℕ} → Allowed o b f bytes items → List ℕ
-firsts-of {o = o} {f = f} {items = items} r = firsts (datagram-to (r .reading .levels)) o (r .reading .begins .read) f items (r .reading .begins .is)
+abbrev pub firsts-of : {mode : Mode} {o : ℕ} {b : List ℕ} {f : Found} {bytes items : ℕ} → Allowed mode o b f bytes items → List ℕ
+firsts-of {mode} {o = o} {f = f} {items = items} r = firsts (datagram-to mode (r .reading .levels)) o (r .reading .begins .read) f items (r .reading .begins .is)
 
 -- of each item of every datagram tried: of a run, and of one that is refused
-unfoldable pub run-firsts : {s : List ℕ} {at end n : ℕ} {g : Forest} → Run s at g end n → List ℕ
+unfoldable pub run-firsts : {mode : Mode} {s : List ℕ} {at end n : ℕ} {g : Forest} → Run mode s at g end n → List ℕ
 run-firsts (over e f m z) = []
 run-firsts (next f bytes items h m d e z t) = firsts-of (d .allowed) ++ run-firsts t
 run-firsts (cut h i t e z) = firsts-before t
 
-unfoldable pub run-firsts-before : {s : List ℕ} {at c i n : ℕ} → Run-stops s at c i n → List ℕ
+unfoldable pub run-firsts-before : {mode : Mode} {s : List ℕ} {at c i n : ℕ} → Run-stops mode s at c i n → List ℕ
 run-firsts-before (this h t z) = firsts-before t
 run-firsts-before (later f bytes items m d e t) = firsts-of (d .allowed) ++ run-firsts-before t
 
@@ -68,19 +68,19 @@ pub record Own (lo hi n : ℕ) (at : List ℕ) : Type 0 where
   pub apart : Apart lo hi at
 
 -- the items that the answer to s counts, by where they begin: those of the reading, or those before the fault, or none where s is too long
-pub data Counted (s : List ℕ) : List ℕ → Type 0 where
-  too-long : longest-input < length s → Counted s []
-  faulty : {c i n : ℕ} (t : Stops datagram 0 s c i n) → Counted s (firsts-before t)
-  whole : {f : Found} {bytes items : ℕ} (r : Allowed 0 s f bytes items) → Counted s (firsts-of r)
+pub data Counted (mode : Mode) (s : List ℕ) : List ℕ → Type 0 where
+  too-long : longest-input < length s → Counted mode s []
+  faulty : {c i n : ℕ} (t : Stops (datagram mode) 0 s c i n) → Counted mode s (firsts-before t)
+  whole : {f : Found} {bytes items : ℕ} (r : Allowed mode 0 s f bytes items) → Counted mode s (firsts-of r)
 
-pub data Run-counted (s : List ℕ) : List ℕ → Type 0 where
-  too-long : longest-input < length s → Run-counted s []
-  faulty : {c i n : ℕ} (t : Run-stops s 0 c i n) → Run-counted s (run-firsts-before t)
-  whole : {g : Forest} {end n : ℕ} (t : Run s 0 g end n) → Run-counted s (run-firsts t)
+pub data Run-counted (mode : Mode) (s : List ℕ) : List ℕ → Type 0 where
+  too-long : longest-input < length s → Run-counted mode s []
+  faulty : {c i n : ℕ} (t : Run-stops mode s 0 c i n) → Run-counted mode s (run-firsts-before t)
+  whole : {g : Forest} {end n : ℕ} (t : Run mode s 0 g end n) → Run-counted mode s (run-firsts t)
 
 -- of field reading: those of the layout, or those before the fault, in the range; none where the range is not read
-pub data Fields-counted (ak af : ℕ) (s : List ℕ) (k f start extent : ℕ) : List ℕ → Type 0 where
-  not-read : (length s ≤ longest-input → start + extent ≤ length s → k ≡ ak → f ≡ af → ⊥) → Fields-counted ak af s k f start extent []
-  faulty : {c i n : ℕ} (t : Stops (alone (layout-of ak af)) start (take extent (drop start s)) c i n) → Fields-counted ak af s k f start extent (firsts-before t)
-  whole : {vs : List Value} {bytes items : ℕ} (r : Fields-reading (layout-of ak af) start (take extent (drop start s)) vs bytes items)
-      → Fields-counted ak af s k f start extent (firsts (alone (layout-of ak af)) start (r .read) (only-values vs) items (r .is))
+pub data Fields-counted (mode : Mode) (ak af : ℕ) (s : List ℕ) (k f start extent : ℕ) : List ℕ → Type 0 where
+  not-read : (length s ≤ longest-input → start + extent ≤ length s → k ≡ ak → f ≡ af → ⊥) → Fields-counted mode ak af s k f start extent []
+  faulty : {c i n : ℕ} (t : Stops (alone (layout-of mode ak af)) start (take extent (drop start s)) c i n) → Fields-counted mode ak af s k f start extent (firsts-before t)
+  whole : {vs : List Value} {bytes items : ℕ} (r : Fields-reading (layout-of mode ak af) start (take extent (drop start s)) vs bytes items)
+      → Fields-counted mode ak af s k f start extent (firsts (alone (layout-of mode ak af)) start (r .read) (only-values vs) items (r .is))

@@ -6,7 +6,7 @@ use mathlib.Core.List.{List}
 use lib.ListN.{length, getD}
 use Rattle.reading.specs.Script.{Value, Found, Item, word, tested, long, int, block, opaque, string, Script, give, refuse, here, item, within, repeat}
 use Rattle.reading.specs.Grammar.{Opaque, Is-item, Meaning, Many, Is}
-use Rattle.reading.specs.Layout.{datagram-to}
+use Rattle.reading.specs.Layout.{Mode, datagram-to}
 use Rattle.demands.specs.Readings.{Allowed}
 
 -- an opaque that starts at o is a length word, a payload x and a pad: position i is that of a byte of the pad
@@ -42,10 +42,10 @@ Pad (within body k) o b f n (u, y, x, inner, rest, a, m, l, _, _, q, _, t, v) i 
 Pad (repeat c body k) o b f n (x, y, a, m, l, _, _, t, v) i = Many-pad c (Is body) (Pad body) o x a m t i ⊎ Pad (k a) (o + length x) y f l v i
 
 -- of a datagram that s begins with
-abbrev pub Pad-of : {s : List ℕ} {f : Found} {bytes items : ℕ} → Allowed 0 s f bytes items → ℕ → Type 0
-Pad-of {f = f} {items = items} r i = Pad (datagram-to (r .reading .levels)) 0 (r .reading .begins .read) f items (r .reading .begins .is) i
+abbrev pub Pad-of : {mode : Mode} {s : List ℕ} {f : Found} {bytes items : ℕ} → Allowed mode 0 s f bytes items → ℕ → Type 0
+Pad-of {mode} {f = f} {items = items} r i = Pad (datagram-to mode (r .reading .levels)) 0 (r .reading .begins .read) f items (r .reading .begins .is) i
 
 -- t has each byte of the datagram that is in no pad; what its pads hold, and what is behind its end, is free, and so is the length from there on
-pub record Same-but-pads {s : List ℕ} {f : Found} {bytes items : ℕ} (r : Allowed 0 s f bytes items) (t : List ℕ) : Type 0 where
+pub record Same-but-pads (mode : Mode) {s : List ℕ} {f : Found} {bytes items : ℕ} (r : Allowed mode 0 s f bytes items) (t : List ℕ) : Type 0 where
   pub long : bytes ≤ length t
   pub alike : (i : ℕ) → i < bytes → (Pad-of r i → ⊥) → getD t i 0 ≡ getD s i 0

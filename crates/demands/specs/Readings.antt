@@ -5,7 +5,7 @@ use mathlib.Core.List.{List, _++_}
 use lib.ListN.{length}
 use Rattle.reading.specs.Script.{Found, Script}
 use Rattle.reading.specs.Grammar.{Is}
-use Rattle.reading.specs.Layout.{datagram-to}
+use Rattle.reading.specs.Layout.{Mode, datagram-to}
 use Rattle.reading.specs.Sizes.{depth-limit}
 use Rattle.demands.specs.Depths.{Shallow}
 
@@ -18,11 +18,11 @@ pub record Begins (sc : Script) (o : ℕ) (b : List ℕ) (f : Found) (bytes item
   pub is : Is sc o read f items
 
 -- a reading by the grammar of b, which starts at o, of whatever depth
-pub record Reading (o : ℕ) (b : List ℕ) (f : Found) (bytes items : ℕ) : Type 0 where
+pub record Reading (mode : Mode) (o : ℕ) (b : List ℕ) (f : Found) (bytes items : ℕ) : Type 0 where
   pub levels : ℕ
-  pub begins : Begins (datagram-to levels) o b f bytes items
+  pub begins : Begins (datagram-to mode levels) o b f bytes items
 
 -- a reading, with no record deeper than 8
-pub record Allowed (o : ℕ) (b : List ℕ) (f : Found) (bytes items : ℕ) : Type 0 where
-  pub reading : Reading o b f bytes items
+pub record Allowed (mode : Mode) (o : ℕ) (b : List ℕ) (f : Found) (bytes items : ℕ) : Type 0 where
+  pub reading : Reading mode o b f bytes items
   pub shallow : Shallow depth-limit (f .ranges)

@@ -11,6 +11,7 @@ use Rattle.reading.specs.Sizes.{longest-input}
 use Rattle.reading.specs.Script.{Value}
 use Rattle.reading.specs.Cursor.{stop}
 use Rattle.reading.specs.Values.{valued}
+use Rattle.reading.specs.Layout.{Mode}
 use Rattle.reading.specs.Answer.{answered, layout-of, read}
 use Rattle.xdr.specs.declared.Outcome.{Outcome}
 use Rattle.xdr.specs.declared.Passed.{Passed}
@@ -26,27 +27,27 @@ pub nothing-asked : {code : ℕ} {p : Passed} → p ≡ unread code → record {
 nothing-asked e = rw e
 
 module _ (k f : ℕ) (s w : List ℕ) {r : Asked} where
-  refused-so : (code : ℕ) → answered (valued (layout-of k f) (stop code 0 0)) ≡ read-at k f s w → r ≡ not-asked code → Asks k f s w r
+  refused-so : (code : ℕ) → ((mode : Mode) → answered (valued (layout-of mode k f) (stop code 0 0)) ≡ read-at mode k f s w) → r ≡ not-asked code → Asks k f s w r
   refused-so code e h = rw h (record { inside = omega arith; within = over; is = e })
 
   pub asks-long : longest-input < length s → r ≡ not-asked 1 → Asks k f s w r
   unfolding read
-  asks-long h = refused-so 1 (rw (lt-leb (length s) longest-input h))
+  asks-long h = refused-so 1 (λ mode. rw (lt-leb (length s) longest-input h))
 
   module _ (d : Descriptor) (i : Has-words w d) (h : length s ≤ longest-input) where
     pub asks-far : length s < d .start + d .length → r ≡ not-asked 10 → Asks k f s w r
     unfolding read
-    asks-far l = refused-so 10 (by-words s w d i k f (rw (le-leb (length s) longest-input h, lt-leb (d .start + d .length) (length s) l)))
+    asks-far l = refused-so 10 (λ mode. by-words s w d i mode k f (rw (le-leb (length s) longest-input h, lt-leb (d .start + d .length) (length s) l)))
 
     module _ (l : d .start + d .length ≤ length s) where
       pub asks-kind : (d .kind ≡ k → ⊥) → r ≡ not-asked 11 → Asks k f s w r
       unfolding read
-      asks-kind z = refused-so 11 (by-words s w d i k f (rw (le-leb (length s) longest-input h, le-leb (d .start + d .length) (length s) l, ne-eqb (d .kind) k z)))
+      asks-kind z = refused-so 11 (λ mode. by-words s w d i mode k f (rw (le-leb (length s) longest-input h, le-leb (d .start + d .length) (length s) l, ne-eqb (d .kind) k z)))
 
       module _ (e : d .kind ≡ k) where
         pub asks-format : (d .format .0 ≡ f → ⊥) → r ≡ not-asked 11 → Asks k f s w r
         unfolding read
-        asks-format z = refused-so 11 (by-words s w d i k f (rw (le-leb (length s) longest-input h, le-leb (d .start + d .length) (length s) l, eq-eqb (d .kind) k e, ne-eqb (d .format .0) f z)))
+        asks-format z = refused-so 11 (λ mode. by-words s w d i mode k f (rw (le-leb (length s) longest-input h, le-leb (d .start + d .length) (length s) l, eq-eqb (d .kind) k e, ne-eqb (d .format .0) f z)))
 
 pub asks-on : (k f : ℕ) (s w : List ℕ) (d : Descriptor) → Has-words w d → length s ≤ longest-input → d .start + d .length ≤ length s → d .kind ≡ k → d .format .0 ≡ f
     → Asks k f s w (record { passed = passed.Got (record { at = d .start; steps = 0 }); end = d .start + d .length })
@@ -56,7 +57,7 @@ asks-on k f s w d i h l e z =
     record {
       inside = l;
       within = inside {c = record { at = d .start; steps = 0 }} (record { inside = omega (arith, n); counted = omega arith });
-      is = by-words s w d i k f (rw (le-leb (length s) longest-input h, le-leb (d .start + d .length) (length s) l, eq-eqb (d .kind) k e, eq-eqb (d .format .0) f z));
+      is = λ mode. by-words s w d i mode k f (rw (le-leb (length s) longest-input h, le-leb (d .start + d .length) (length s) l, eq-eqb (d .kind) k e, eq-eqb (d .format .0) f z));
     }
 
 module _ {k f : ℕ} {s w : List ℕ} {r : Asked} (a : Asks k f s w r) where
@@ -66,8 +67,8 @@ module _ {k f : ℕ} {s w : List ℕ} {r : Asked} (a : Asks k f s w r) where
   pub asked-within : Within (take (r .end) s) (r .passed)
   asked-within = a .within
 
-  pub read-so : {o : Outcome} {vs : List Value} → Answers (layout-of k f) (take (r .end) s) (r .passed) o vs → answer-of o vs ≡ read-at k f s w
-  read-so i = i .is ∙ a .is
+  pub read-so : (mode : Mode) {o : Outcome} {vs : List Value} → Answers (layout-of mode k f) (take (r .end) s) (r .passed) o vs → answer-of o vs ≡ read-at mode k f s w
+  read-so mode i = i .is ∙ a .is mode
 
 pub ruleset asking = (nothing-asked, asks-long, asks-far, asks-kind, asks-format, asks-on, needs)
 

@@ -5,6 +5,7 @@ use mathlib.Core.Path.{_≡_, refl}
 use mathlib.Core.Bool.{true, false}
 use mathlib.Core.List.{List, [], _∷_, map}
 use Rattle.reading.specs.Examples.{Result, of-word, Example, list-words}
+use Rattle.reading.specs.Layout.{Mode}
 use Rattle.reading.specs.Answer.{read}
 use Rattle.fields.specs.Shown.{read-at, listed}
 use Rattle.fields.specs.declared.lists.Listed.{Listed}
@@ -30,5 +31,5 @@ unfolding shown list-words
 the-names-hold = refl
 
 -- a descriptor's words, as they are handed in: kind, format, start and length are what is asked
-pub the-descriptor-holds : (s : List ℕ) → read-at 1 2 s (11 ∷ 12 ∷ 13 ∷ 14 ∷ 15 ∷ 16 ∷ 17 ∷ []) ≡ read 1 2 s 11 12 13 14
-the-descriptor-holds s = refl
+pub the-descriptor-holds : (mode : Mode) (s : List ℕ) → read-at mode 1 2 s (11 ∷ 12 ∷ 13 ∷ 14 ∷ 15 ∷ 16 ∷ 17 ∷ []) ≡ read mode 1 2 s 11 12 13 14
+the-descriptor-holds mode s = refl

@@ -4,6 +4,7 @@ use mathlib.Core.Path.{_≡_}
 use mathlib.Core.List.{List}
 use lib.ListN.{length, take, getD}
 use Rattle.reading.specs.Answer as answer
+use Rattle.reading.specs.Layout.{Mode}
 use Rattle.reading.specs.Answer.{Fields, answered, layout-of, read, segment-fields, segment-at}
 use Rattle.xdr.specs.declared.Passed.{Passed}
 use Rattle.xdr.specs.declared.Passed.the-variants as passed
@@ -24,8 +25,8 @@ pub record Has-words (w : List ℕ) (d : Descriptor) : Type 0 where
   pub first : d .first ≡ getD w 6 0
 
 -- the fields of this kind and format, of a descriptor's words
-abbrev pub read-at : (kind format : ℕ) → List ℕ → List ℕ → Fields
-read-at k f s w = read k f s (getD w 0 0) (getD w 1 0) (getD w 2 0) (getD w 3 0)
+abbrev pub read-at : Mode → (kind format : ℕ) → List ℕ → List ℕ → Fields
+read-at mode k f s w = read mode k f s (getD w 0 0) (getD w 1 0) (getD w 2 0) (getD w 3 0)
 
 abbrev pub unread : ℕ → Passed
 unread code = passed.Stop (record { code = code; at = 0; steps = 0 })
@@ -33,11 +34,11 @@ unread code = passed.Stop (record { code = code; at = 0; steps = 0 })
 abbrev pub not-asked : ℕ → Asked
 not-asked code = record { passed = unread code; end = 0 }
 
--- the layout, read on from here and held to the range, is what the field reading answers
+-- the layout, read on from here and held to the range, is what the field reading answers, in each mode
 pub record Asks (kind format : ℕ) (s w : List ℕ) (r : Asked) : Type 0 where
   pub inside : r .end ≤ length s
   pub within : Within (take (r .end) s) (r .passed)
-  pub is : answered (read-on (layout-of kind format) (take (r .end) s) (r .passed)) ≡ read-at kind format s w
+  pub is : (mode : Mode) → answered (read-on (layout-of mode kind format) (take (r .end) s) (r .passed)) ≡ read-at mode kind format s w
 
 -- a segment, read on from here, is the one at this position
 pub record Begins (s : List ℕ) (at : ℕ) (p : Passed) : Type 0 where

@@ -32,7 +32,7 @@ flow-1 = record { outcome = record { code = 0; at = 28; steps = 4 }; protocol = 
 
 -- sampled_ethernet, format 2
 flow-2 : SampledEthernet
-flow-2 = record { outcome = record { code = 0; at = 24; steps = 4 }; length = 0x11121314; «src_mac» = (0x15 ∷ 0x16 ∷ 0x17 ∷ 0x18 ∷ 0x19 ∷ 0x1a ∷ []); «dst_mac» = (0x1b ∷ 0x1c ∷ 0x1d ∷ 0x1e ∷ 0x1f ∷ 0x20 ∷ []); «eth_type» = 0x21222324 }
+flow-2 = record { outcome = record { code = 0; at = 28; steps = 4 }; length = 0x11121314; «src_mac» = (0x15 ∷ 0x16 ∷ 0x17 ∷ 0x18 ∷ 0x19 ∷ 0x1a ∷ []); «dst_mac» = (0x1d ∷ 0x1e ∷ 0x1f ∷ 0x20 ∷ 0x21 ∷ 0x22 ∷ []); «eth_type» = 0x25262728 }
 
 -- sampled_ipv4, format 3
 flow-3 : SampledIpv4

@@ -4,14 +4,16 @@ ghost use Rattle.reading.specs.Script.{give, nothing};
 ghost use Rattle.reading.specs.Cursor.{follow};
 ghost use Rattle.reading.specs.Layout.{opened, flows};
 ghost use Rattle.xdr.specs.Shown.{Inside, place, passed-out};
+ghost use Rattle.layout.specs.Chain.{mode-of};
+use layout::field::Mode;
 use layout::pass::Row;
 use xdr::Cursor;
 use xdr::Passed;
 
-pub fn pass(c: Cursor, s: &[u8], format: u32) -> Passed
+pub fn pass(c: Cursor, s: &[u8], format: u32, mode: Mode) -> Passed
     requires { ⌜ Inside (now s) c ⌝ }
     requires { ⌜ (format ≡ 1016 → ⊥) ⌝ }
-    ensures { λ r. ⌜ passed-out r nothing ≡ follow (opened (flows (give nothing)) format) (now (s .entry)) (place c) ⌝ }
+    ensures { λ r. ⌜ passed-out r nothing ≡ follow (opened (flows (mode-of mode) (give nothing)) format) (now (s .entry)) (place c) ⌝ }
 {
     let row = Row {
         passed: Passed::Got(c),
@@ -19,11 +21,7 @@ pub fn pass(c: Cursor, s: &[u8], format: u32) -> Passed
     match format {
         // made by layouts/make from layouts/table: from here
         1 => row.protocol(s).words(s, 2).opaque(s).passed,
-        2 => row.words(s, 1)
-            .six(s, false)
-            .six(s, false)
-            .words(s, 1)
-            .passed,
+        2 => row.words(s, 1).six(s, mode).six(s, mode).words(s, 1).passed,
         3 => row.words(s, 8).passed,
         4 => row.words(s, 2).sixteen(s).sixteen(s).words(s, 4).passed,
         1001 => row.words(s, 4).passed,
@@ -45,13 +43,13 @@ pub fn pass(c: Cursor, s: &[u8], format: u32) -> Passed
         1012 => row.list(s).passed,
         1013 => row.words(s, 1).opaque(s).passed,
         1014 => row.text(s)
-            .six(s, true)
+            .six(s, Mode::Memo)
             .words(s, 2)
             .long(s)
             .words(s, 3)
             .passed,
         1015 => row.text(s)
-            .six(s, true)
+            .six(s, Mode::Memo)
             .words(s, 5)
             .long(s)
             .words(s, 1)

@@ -2,7 +2,7 @@
 // What a switch, a router or a server adds to a sampled packet.
 ghost use mathlib.Core.Path.{_≡_};
 ghost use mathlib.Core.List.{_∷_, _++_};
-ghost use Rattle.reading.specs.Layout.{addr, list, segments, words};
+ghost use Rattle.reading.specs.Layout.{addr, list, memo, segments, words};
 ghost use Rattle.reading.specs.Values.{zeros};
 ghost use Rattle.reading.specs.Answer.{layout-of};
 ghost use Rattle.xdr.specs.Shown.{Answers};
@@ -29,7 +29,7 @@ pub struct ExtendedSwitch {
 impl ExtendedSwitch {
     pub fn parse(p: Passed, s: &[u8]) -> ExtendedSwitch
         requires { ⌜ Within (now s) p ⌝ }
-        ensures { λ r. ⌜ Answers (layout-of 2 1001) (now (s .entry)) p (r .outcome) (extended-switch r) ⌝ }
+        ensures { λ r. ⌜ Answers (layout-of memo 2 1001) (now (s .entry)) p (r .outcome) (extended-switch r) ⌝ }
     {
         let row = field::words(p, s, 4);
         let passed = row.passed;
@@ -67,7 +67,7 @@ pub struct ExtendedRouter {
 impl ExtendedRouter {
     pub fn parse(p: Passed, s: &[u8]) -> ExtendedRouter
         requires { ⌜ Within (now s) p ⌝ }
-        ensures { λ r. ⌜ Answers (layout-of 2 1002) (now (s .entry)) p (r .outcome) (extended-router r) ⌝ }
+        ensures { λ r. ⌜ Answers (layout-of memo 2 1002) (now (s .entry)) p (r .outcome) (extended-router r) ⌝ }
     {
         let address = field::address(p, s);
         let passed = address.passed;
@@ -131,7 +131,7 @@ impl ExtendedGateway {
 
     pub fn parse(p: Passed, s: &[u8]) -> ExtendedGateway
         requires { ⌜ Within (now s) p ⌝ }
-        ensures { λ r. ⌜ Answers (layout-of 2 1003) (now (s .entry)) p (r .outcome) (extended-gateway r) ⌝ }
+        ensures { λ r. ⌜ Answers (layout-of memo 2 1003) (now (s .entry)) p (r .outcome) (extended-gateway r) ⌝ }
     {
         let address = field::address(p, s);
         let passed = address.passed;
@@ -175,7 +175,7 @@ pub struct ExtendedUser {
 impl ExtendedUser {
     pub fn parse(p: Passed, s: &[u8]) -> ExtendedUser
         requires { ⌜ Within (now s) p ⌝ }
-        ensures { λ r. ⌜ Answers (layout-of 2 1004) (now (s .entry)) p (r .outcome) (extended-user r) ⌝ }
+        ensures { λ r. ⌜ Answers (layout-of memo 2 1004) (now (s .entry)) p (r .outcome) (extended-user r) ⌝ }
     {
         let word = field::word(p, s);
         let passed = word.passed;
@@ -220,7 +220,7 @@ pub struct ExtendedUrl {
 impl ExtendedUrl {
     pub fn parse(p: Passed, s: &[u8]) -> ExtendedUrl
         requires { ⌜ Within (now s) p ⌝ }
-        ensures { λ r. ⌜ Answers (layout-of 2 1005) (now (s .entry)) p (r .outcome) (extended-url r) ⌝ }
+        ensures { λ r. ⌜ Answers (layout-of memo 2 1005) (now (s .entry)) p (r .outcome) (extended-url r) ⌝ }
     {
         let word = field::word(p, s);
         let passed = word.passed;
@@ -259,7 +259,7 @@ pub struct ExtendedNat {
 impl ExtendedNat {
     pub fn parse(p: Passed, s: &[u8]) -> ExtendedNat
         requires { ⌜ Within (now s) p ⌝ }
-        ensures { λ r. ⌜ Answers (layout-of 2 1007) (now (s .entry)) p (r .outcome) (extended-nat r) ⌝ }
+        ensures { λ r. ⌜ Answers (layout-of memo 2 1007) (now (s .entry)) p (r .outcome) (extended-nat r) ⌝ }
     {
         let address = field::address(p, s);
         let passed = address.passed;
@@ -298,7 +298,7 @@ pub struct ExtendedVlanTunnel {
 impl ExtendedVlanTunnel {
     pub fn parse(p: Passed, s: &[u8]) -> ExtendedVlanTunnel
         requires { ⌜ Within (now s) p ⌝ }
-        ensures { λ r. ⌜ Answers (layout-of 2 1012) (now (s .entry)) p (r .outcome) (extended-vlan-tunnel r) ⌝ }
+        ensures { λ r. ⌜ Answers (layout-of memo 2 1012) (now (s .entry)) p (r .outcome) (extended-vlan-tunnel r) ⌝ }
     {
         let list = field::range(p, s, Counted::List);
         let passed = list.passed;

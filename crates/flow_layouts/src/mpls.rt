@@ -1,5 +1,6 @@
 // Made by layouts/make from layouts/table.
 // MPLS: the labels of a packet, and the path that it takes.
+ghost use Rattle.reading.specs.Layout.{memo};
 ghost use Rattle.reading.specs.Answer.{layout-of};
 ghost use Rattle.xdr.specs.Shown.{Answers};
 ghost use Rattle.layout.specs.Chain.{Within};
@@ -23,7 +24,7 @@ pub struct ExtendedMpls {
 impl ExtendedMpls {
     pub fn parse(p: Passed, s: &[u8]) -> ExtendedMpls
         requires { ⌜ Within (now s) p ⌝ }
-        ensures { λ r. ⌜ Answers (layout-of 2 1006) (now (s .entry)) p (r .outcome) (extended-mpls r) ⌝ }
+        ensures { λ r. ⌜ Answers (layout-of memo 2 1006) (now (s .entry)) p (r .outcome) (extended-mpls r) ⌝ }
     {
         let address = field::address(p, s);
         let passed = address.passed;
@@ -66,7 +67,7 @@ pub struct ExtendedMplsTunnel {
 impl ExtendedMplsTunnel {
     pub fn parse(p: Passed, s: &[u8]) -> ExtendedMplsTunnel
         requires { ⌜ Within (now s) p ⌝ }
-        ensures { λ r. ⌜ Answers (layout-of 2 1008) (now (s .entry)) p (r .outcome) (extended-mpls-tunnel r) ⌝ }
+        ensures { λ r. ⌜ Answers (layout-of memo 2 1008) (now (s .entry)) p (r .outcome) (extended-mpls-tunnel r) ⌝ }
     {
         let text = field::text(p, s);
         let passed = text.passed;
@@ -106,7 +107,7 @@ pub struct ExtendedMplsVc {
 impl ExtendedMplsVc {
     pub fn parse(p: Passed, s: &[u8]) -> ExtendedMplsVc
         requires { ⌜ Within (now s) p ⌝ }
-        ensures { λ r. ⌜ Answers (layout-of 2 1009) (now (s .entry)) p (r .outcome) (extended-mpls-vc r) ⌝ }
+        ensures { λ r. ⌜ Answers (layout-of memo 2 1009) (now (s .entry)) p (r .outcome) (extended-mpls-vc r) ⌝ }
     {
         let text = field::text(p, s);
         let passed = text.passed;
@@ -146,7 +147,7 @@ pub struct ExtendedMplsFec {
 impl ExtendedMplsFec {
     pub fn parse(p: Passed, s: &[u8]) -> ExtendedMplsFec
         requires { ⌜ Within (now s) p ⌝ }
-        ensures { λ r. ⌜ Answers (layout-of 2 1010) (now (s .entry)) p (r .outcome) (extended-mpls-fec r) ⌝ }
+        ensures { λ r. ⌜ Answers (layout-of memo 2 1010) (now (s .entry)) p (r .outcome) (extended-mpls-fec r) ⌝ }
     {
         let address = field::address(p, s);
         let passed = address.passed;
@@ -182,7 +183,7 @@ pub struct ExtendedMplsLvpFec {
 impl ExtendedMplsLvpFec {
     pub fn parse(p: Passed, s: &[u8]) -> ExtendedMplsLvpFec
         requires { ⌜ Within (now s) p ⌝ }
-        ensures { λ r. ⌜ Answers (layout-of 2 1011) (now (s .entry)) p (r .outcome) (extended-mpls-lvp-fec r) ⌝ }
+        ensures { λ r. ⌜ Answers (layout-of memo 2 1011) (now (s .entry)) p (r .outcome) (extended-mpls-lvp-fec r) ⌝ }
     {
         let word = field::word(p, s);
         let passed = word.passed;

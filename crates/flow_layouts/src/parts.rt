@@ -5,6 +5,7 @@ ghost use Rattle.layout.specs.Chain.{Within, Then};
 ghost use Rattle.flow_layouts.specs.Parts.{route, network};
 use layout::field;
 use layout::field::Counted;
+use layout::field::Mode;
 use xdr::Passed;
 use xdr::Span;
 
@@ -52,7 +53,7 @@ impl Network {
         let text = field::text(p, s);
         let passed = text.passed;
         let ssid = text.span;
-        let mac = field::six(passed, s, true);
+        let mac = field::six(passed, s, Mode::Memo);
         let passed = mac.passed;
         let bssid = mac.bytes;
         Network {

@@ -3,13 +3,14 @@
 ghost use mathlib.Core.Path.{_≡_};
 ghost use mathlib.Core.List.{_∷_, _++_};
 ghost use Rattle.reading.specs.Script.{sixteen};
-ghost use Rattle.reading.specs.Layout.{bytes, words};
+ghost use Rattle.reading.specs.Layout.{bytes, memo, words};
 ghost use Rattle.reading.specs.Values.{zeros};
 ghost use Rattle.reading.specs.Answer.{layout-of};
 ghost use Rattle.xdr.specs.Shown.{Answers};
-ghost use Rattle.layout.specs.Chain.{Within};
+ghost use Rattle.layout.specs.Chain.{Within, mode-of};
 ghost use Rattle.flow_layouts.specs.Shown.{sampled-header, sampled-ethernet, sampled-ipv4, sampled-ipv6};
 use layout::field;
+use layout::field::Mode;
 use xdr::Outcome;
 use xdr::Passed;
 use xdr::Span;
@@ -27,7 +28,7 @@ pub struct SampledHeader {
 impl SampledHeader {
     pub fn parse(p: Passed, s: &[u8]) -> SampledHeader
         requires { ⌜ Within (now s) p ⌝ }
-        ensures { λ r. ⌜ Answers (layout-of 2 1) (now (s .entry)) p (r .outcome) (sampled-header r) ⌝ }
+        ensures { λ r. ⌜ Answers (layout-of memo 2 1) (now (s .entry)) p (r .outcome) (sampled-header r) ⌝ }
     {
         let word = field::protocol(p, s);
         let passed = word.passed;
@@ -70,17 +71,17 @@ pub struct SampledEthernet {
 }
 
 impl SampledEthernet {
-    pub fn parse(p: Passed, s: &[u8]) -> SampledEthernet
+    pub fn parse(p: Passed, s: &[u8], mode: Mode) -> SampledEthernet
         requires { ⌜ Within (now s) p ⌝ }
-        ensures { λ r. ⌜ Answers (layout-of 2 2) (now (s .entry)) p (r .outcome) (sampled-ethernet r) ⌝ }
+        ensures { λ r. ⌜ Answers (layout-of (mode-of mode) 2 2) (now (s .entry)) p (r .outcome) (sampled-ethernet r) ⌝ }
     {
         let word = field::word(p, s);
         let passed = word.passed;
         let length = word.value;
-        let mac = field::six(passed, s, false);
+        let mac = field::six(passed, s, mode);
         let passed = mac.passed;
         let src_mac = mac.bytes;
-        let mac = field::six(passed, s, false);
+        let mac = field::six(passed, s, mode);
         let passed = mac.passed;
         let dst_mac = mac.bytes;
         let word = field::word(passed, s);
@@ -122,7 +123,7 @@ pub struct SampledIpv4 {
 impl SampledIpv4 {
     pub fn parse(p: Passed, s: &[u8]) -> SampledIpv4
         requires { ⌜ Within (now s) p ⌝ }
-        ensures { λ r. ⌜ Answers (layout-of 2 3) (now (s .entry)) p (r .outcome) (sampled-ipv4 r) ⌝ }
+        ensures { λ r. ⌜ Answers (layout-of memo 2 3) (now (s .entry)) p (r .outcome) (sampled-ipv4 r) ⌝ }
     {
         let row = field::words(p, s, 8);
         let passed = row.passed;
@@ -189,7 +190,7 @@ impl SampledIpv6 {
 
     pub fn parse(p: Passed, s: &[u8]) -> SampledIpv6
         requires { ⌜ Within (now s) p ⌝ }
-        ensures { λ r. ⌜ Answers (layout-of 2 4) (now (s .entry)) p (r .outcome) (sampled-ipv6 r) ⌝ }
+        ensures { λ r. ⌜ Answers (layout-of memo 2 4) (now (s .entry)) p (r .outcome) (sampled-ipv6 r) ⌝ }
     {
         let first = field::words(p, s, 2);
         let passed = first.passed;

@@ -3,7 +3,7 @@
 ghost use mathlib.Core.Path.{_≡_};
 ghost use mathlib.Core.List.{_∷_, _++_};
 ghost use Rattle.reading.specs.Script.{long};
-ghost use Rattle.reading.specs.Layout.{mac, plain, str, words};
+ghost use Rattle.reading.specs.Layout.{mac, memo, plain, str, words};
 ghost use Rattle.reading.specs.Values.{zeros};
 ghost use Rattle.reading.specs.Answer.{layout-of};
 ghost use Rattle.xdr.specs.Shown.{Answers};
@@ -26,7 +26,7 @@ pub struct Extended80211Payload {
 impl Extended80211Payload {
     pub fn parse(p: Passed, s: &[u8]) -> Extended80211Payload
         requires { ⌜ Within (now s) p ⌝ }
-        ensures { λ r. ⌜ Answers (layout-of 2 1013) (now (s .entry)) p (r .outcome) (extended-80211-payload r) ⌝ }
+        ensures { λ r. ⌜ Answers (layout-of memo 2 1013) (now (s .entry)) p (r .outcome) (extended-80211-payload r) ⌝ }
     {
         let word = field::word(p, s);
         let passed = word.passed;
@@ -82,7 +82,7 @@ impl Extended80211Rx {
 
     pub fn parse(p: Passed, s: &[u8]) -> Extended80211Rx
         requires { ⌜ Within (now s) p ⌝ }
-        ensures { λ r. ⌜ Answers (layout-of 2 1014) (now (s .entry)) p (r .outcome) (extended-80211-rx r) ⌝ }
+        ensures { λ r. ⌜ Answers (layout-of memo 2 1014) (now (s .entry)) p (r .outcome) (extended-80211-rx r) ⌝ }
     {
         let network = Network::parse(p, s);
         let passed = network.passed;
@@ -151,7 +151,7 @@ impl Extended80211Tx {
 
     pub fn parse(p: Passed, s: &[u8]) -> Extended80211Tx
         requires { ⌜ Within (now s) p ⌝ }
-        ensures { λ r. ⌜ Answers (layout-of 2 1015) (now (s .entry)) p (r .outcome) (extended-80211-tx r) ⌝ }
+        ensures { λ r. ⌜ Answers (layout-of memo 2 1015) (now (s .entry)) p (r .outcome) (extended-80211-tx r) ⌝ }
     {
         let network = Network::parse(p, s);
         let passed = network.passed;
@@ -196,7 +196,7 @@ pub struct Extended80211Aggregation {
 impl Extended80211Aggregation {
     pub fn parse(p: Passed, s: &[u8]) -> Extended80211Aggregation
         requires { ⌜ Within (now s) p ⌝ }
-        ensures { λ r. ⌜ Answers (layout-of 2 1016) (now (s .entry)) p (r .outcome) (extended-80211-aggregation r) ⌝ }
+        ensures { λ r. ⌜ Answers (layout-of memo 2 1016) (now (s .entry)) p (r .outcome) (extended-80211-aggregation r) ⌝ }
     {
         let word = field::word(p, s);
         let passed = word.passed;

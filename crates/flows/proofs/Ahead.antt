@@ -14,7 +14,7 @@ use Rattle.reading.specs.Sizes.{longest-input, depth-limit}
 use Rattle.reading.specs.Bytes.{be4, padded}
 use Rattle.reading.specs.Script.{number, nothing, word, opaque, give}
 use Rattle.reading.specs.Cursor.{Out, got, read-item, times, follow}
-use Rattle.reading.specs.Layout.{plain, protocol, words, fields, opened, flows, flow}
+use Rattle.reading.specs.Layout.{Mode, memo, plain, protocol, words, fields, opened, flows, flow}
 use Rattle.reading.specs.Answer.{layout-of}
 use Rattle.reading.proofs.Words.{numbers, row-got}
 use Rattle.reading.proofs.Opaques.{opaque-got}
@@ -32,7 +32,7 @@ use Rattle.layout.specs.declared.frames.Frame.the-variants as frame
 use Rattle.layout.specs.declared.frames.Scanned.the-variants as scanned
 use Rattle.layout.specs.Scanned.{Scan, frame-out}
 use Rattle.layout.specs.Chain.{Then, goes, Ends, ends}
-use Rattle.flows.specs.Passing.{Passes, Passes-record}
+use Rattle.flows.specs.Passing.{Passes, Passes-record, Ahead-of}
 use Rattle.layout.proofs.Chain.{both, item-goes, unsure}
 use Rattle.flow_layouts.proofs.Formats.{arm}
 use Rattle.layout.proofs.Protocols.{known-protocol}
@@ -41,11 +41,11 @@ use Rattle.flows.proofs.Scanning.{flow-thrift, record-got, data-got}
 
 -- ---- a payload
 module _ (k : ℕ) (s : List ℕ) (c : Cursor) (f : ℕ) where
-  pub passes-arm : {p : Passed} → Ends (layout-of 2 k) s (passed.Got c) p → f ≡ k → opened (flows (give nothing)) k ≡ fields (layout-of 2 k) (λ _. give nothing)
+  pub passes-arm : {p : Passed} → ((mode : Mode) → Ends (layout-of mode 2 k) s (passed.Got c) p) → f ≡ k → ((mode : Mode) → opened (flows mode (give nothing)) k ≡ fields (layout-of mode 2 k) (λ _. give nothing))
       → leb (k + 1) 1016 ≡ true → Passes s c f p
   passes-arm {p} t h r b =
-      let e : passed-out p nothing ≡ follow (opened (flows (give nothing)) f) s (place c) = arm k s c f t h r in
-      record { flat = λ _ z. absurd (omega (arith, leb-true (k + 1) 1016 b)); is = λ w. rw w at e }
+      let e : (mode : Mode) → passed-out p nothing ≡ follow (opened (flows mode (give nothing)) f) s (place c) = λ mode. arm k mode s c f (t mode) h (r mode) in
+      record { flat = λ _ z. absurd (omega (arith, leb-true (k + 1) 1016 b)); is = λ w mode. rw w at (e mode) }
 
 pub passes-as : {s : List ℕ} {c : Cursor} {f k : ℕ} {r : Passed} → f ≡ k → Passes s c k r → Passes s c f r
 passes-as e p = rw e p
@@ -71,12 +71,12 @@ module _ (s : List ℕ) (c : Cursor) {k n p : ℕ} (v : n ≡ be4 s (c .at + 12)
       let three = item-goes opaque s second j (opaque-got s (place second) w (omega arith) t) in
       ends (both (both one two) three)
 
-  pub sampled-passes : 1 ≤ k → k ≤ 17 → opened (flows (give nothing)) 1 ≡ fields (layout-of 2 1) (λ _. give nothing) → layout-of 2 1 ≡ protocol ∷ words 2 ++ plain opaque ∷ []
+  pub sampled-passes : 1 ≤ k → k ≤ 17 → ((mode : Mode) → opened (flows mode (give nothing)) 1 ≡ fields (layout-of mode 2 1) (λ _. give nothing)) → ((mode : Mode) → layout-of mode 2 1 ≡ protocol ∷ words 2 ++ plain opaque ∷ [])
       → Passes s c 1 (passed.Got (record { at = c .at + 16 + p; steps = c .steps + 4 }))
   sampled-passes a b r y =
       let m : c .at + 4 + 8 + 4 ≡ c .at + 16 = omega arith in
       let q : c .steps + 1 + 2 + 1 ≡ c .steps + 4 = omega arith in
-      passes-arm 1 s c 1 (rw (y, z, ← m, ← q) (sampled a b)) refl r refl
+      passes-arm 1 s c 1 (λ mode. rw (y mode, z, ← m, ← q) (sampled a b)) refl r refl
 
 -- ---- a record, by its frame
 pub record-none : {s : List ℕ} {c : Cursor} {x : Outcome} → Passes-record s c (passed.Stop x)
@@ -93,25 +93,32 @@ module _ (s : List ℕ) (c : Cursor) {r : Frame} (e : frame-out r ≡ frame-at s
 
   pub record-passed : {q : Passed} {u : Cursor} → Passes (take (x .start + x .count) s) (record { at = x .start; steps = d .steps }) f q → q ≡ passed.Got u
       → Passes-record s c (passed.Got (record { at = d .at; steps = u .steps }))
-  record-passed {q} {u} p w = record { is = λ y k. rw (← same y) (read k) }
+  record-passed {q} {u} p w = record { is = λ y mode k. rw (← same y) (read mode k) }
     where
       same : {v : Cursor} → passed.Got (record { at = d .at; steps = u .steps }) ≡ passed.Got v → record { at = d .at; steps = u .steps } ≡ v
       same y = cc
 
-      read : (k : ℕ) → got (k + 1) (place (record { at = d .at; steps = u .steps })) ≡ counted k (follow (flow depth-limit depth-limit) s (place c))
-      read k =
-          record-got 8 s c k e (λ z. absurd (omega arith)) h {m = scanned.Got u (k + 1)}
-          (data-got (8 - 1) f (take (x .start + x .count) s) (record { at = x .start; steps = d .steps }) (k + 1) (p .flat w) {r = passed.Got u} (p .is w) refl) refl
+      read : (mode : Mode) (k : ℕ) → got (k + 1) (place (record { at = d .at; steps = u .steps })) ≡ counted k (follow (flow mode depth-limit depth-limit) s (place c))
+      read mode k =
+          record-got mode 8 s c k e (λ z. absurd (omega arith)) h {m = scanned.Got u (k + 1)}
+          (data-got mode (8 - 1) f (take (x .start + x .count) s) (record { at = x .start; steps = d .steps }) (k + 1) (p .flat w) {r = passed.Got u} (p .is w mode) refl) refl
 
 -- ---- so many in a row
 module _ (s : List ℕ) (c : Cursor) (k : ℕ) {r : Passed} {d : Cursor} (p : Passes-record s c r) (w : r ≡ passed.Got d) where
   pub ahead-scan : Scan s c k → Scan s d (k + 1)
-  ahead-scan g = scan-on (flow depth-limit depth-limit) s c k {m = scanned.Got d (k + 1)} (p .is w k) refl g (flow-thrift 8 8)
+  ahead-scan g = scan-on (flow memo depth-limit depth-limit) s c k {m = scanned.Got d (k + 1)} (p .is w memo k) refl g (flow-thrift memo 8 8)
 
   pub ahead-fits : Scan s c k → length s < 2 ^ 64 → Fits w64 (k + 1)
   ahead-fits g l = let j = ahead-scan g in record { fits = omega (arith, j .few, j .inside) }
 
-  pub ahead-turn : (n : ℕ) {t : Out ℕ} → counted k (times n (follow (flow depth-limit depth-limit)) s (place c)) ≡ t → 0 < n → counted (k + 1) (times (n - 1) (follow (flow depth-limit depth-limit)) s (place d)) ≡ t
-  ahead-turn n h z = scan-turn (flow depth-limit depth-limit) s c k n {m = scanned.Got d (k + 1)} (p .is w k) refl h z
+  pub ahead-turn : (c₀ : Cursor) (n₀ k₀ n : ℕ) → Ahead-of s c₀ n₀ k₀ (record { cursor = c; rest = n; count = k }) → 0 < n → Ahead-of s c₀ n₀ k₀ (record { cursor = d; rest = n - 1; count = k + 1 })
+  ahead-turn c₀ n₀ k₀ n h z = record {
+    scan = ahead-scan (h .scan);
+    same = λ mode. scan-turn (flow mode depth-limit depth-limit) s c k n {m = scanned.Got d (k + 1)} (p .is w mode k) refl (h .same mode) z;
+  }
 
-pub ruleset passing = (scan-inside, scan-short, part-short, frame-ends, frame-fits, frame-part, frame-within, record-none, record-passed, ahead-scan, ahead-fits, ahead-turn, needs)
+-- before the first
+pub ahead-none : (s : List ℕ) (c : Cursor) (n k : ℕ) → Scan s c k → Ahead-of s c n k (record { cursor = c; rest = n; count = k })
+ahead-none s c n k g = record { scan = g; same = λ mode. refl }
+
+pub ruleset passing = (scan-inside, scan-short, part-short, frame-ends, frame-fits, frame-part, frame-within, record-none, record-passed, ahead-scan, ahead-fits, ahead-turn, ahead-none, needs)

@@ -5,7 +5,7 @@ ghost use lib.ListN.{length};
 ghost use Rattle.reading.specs.Sizes.{depth-limit};
 ghost use Rattle.reading.specs.Bytes.{be4};
 ghost use Rattle.reading.specs.Cursor.{times, follow};
-ghost use Rattle.reading.specs.Layout.{opened, flows, flow, pdu};
+ghost use Rattle.reading.specs.Layout.{base as base-mode, opened, flows, flow, pdu};
 ghost use Rattle.reading.specs.Answer.{from};
 ghost use Rattle.store.specs.Written.{Ready, held-by, written, placed, filled, fills};
 ghost use Rattle.flows.specs.Passing.{Flat-of};
@@ -38,7 +38,7 @@ pub fn put_flat_records(
     pen: Pen,
 ) -> Flat
     requires { ⌜ left ≤ depth-limit ⌝ }
-    requires { ⌜ Ready (now s) (now store) pen (times n (follow (flow depth-limit left)) (now s) (from at)) ⌝ }
+    requires { ⌜ Ready (now s) (now store) pen (times n (follow (flow base-mode depth-limit left)) (now s) (from at)) ⌝ }
     ensures { λ r. ⌜ Flat-of left (now (s .entry)) (now (store .entry)) at n pen r (now (store .exit)) ⌝ }
     ensures { λ r. ⌜ ((r .rest ≡ 0 → ⊥) → be4 (now (s .entry)) (r .at) ≡ 1016) ⌝ }
 {
@@ -89,8 +89,8 @@ fn put_flow_records(
     pen: Pen,
 ) -> Written
     requires { ⌜ left ≤ depth-limit ⌝ }
-    requires { ⌜ Ready (now s) (now store) pen (times n (follow (flow depth-limit left)) (now s) (from at)) ⌝ }
-    ensures { λ r. ⌜ written r (now (store .exit)) ≡ placed pen (times n (follow (flow depth-limit left)) (now (s .entry)) (from at)) (now (store .entry)) ⌝ }
+    requires { ⌜ Ready (now s) (now store) pen (times n (follow (flow base-mode depth-limit left)) (now s) (from at)) ⌝ }
+    ensures { λ r. ⌜ written r (now (store .exit)) ≡ placed pen (times n (follow (flow base-mode depth-limit left)) (now (s .entry)) (from at)) (now (store .entry)) ⌝ }
 {
     let base = pen.base;
     let parent = pen.parent;
@@ -122,8 +122,8 @@ fn put_flow_records(
 // One flow record: its own descriptor, and, where it is an aggregation, its PDUs behind that.
 fn put_flow_record(s: &[u8], at: usize, left: usize, store: &mut [u32], pen: Pen) -> Written
     requires { ⌜ left ≤ depth-limit ⌝ }
-    requires { ⌜ Ready (now s) (now store) pen (follow (flow depth-limit left) (now s) (from at)) ⌝ }
-    ensures { λ r. ⌜ written r (now (store .exit)) ≡ placed pen (follow (flow depth-limit left) (now (s .entry)) (from at)) (now (store .entry)) ⌝ }
+    requires { ⌜ Ready (now s) (now store) pen (follow (flow base-mode depth-limit left) (now s) (from at)) ⌝ }
+    ensures { λ r. ⌜ written r (now (store .exit)) ≡ placed pen (follow (flow base-mode depth-limit left) (now (s .entry)) (from at)) (now (store .entry)) ⌝ }
 {
     let depth = (TOO_DEEP - left) as u32;
     let format = load::be32(s, at);
@@ -152,8 +152,8 @@ pub fn put_pdus(
 ) -> usize
     requires { ⌜ left ≤ depth-limit ⌝ }
     requires { ⌜ at ≤ length (now s) ⌝ }
-    requires { ⌜ Ready (now s) (now store) (held-by base word) (follow (opened (flows (pdu (depth-limit - left) (flow depth-limit left))) 1016) (now s) (from at)) ⌝ }
-    ensures { λ r. ⌜ filled r (now (store .exit)) ≡ fills (held-by base word) (follow (opened (flows (pdu (depth-limit - left) (flow depth-limit left))) 1016) (now (s .entry)) (from at)) (now (store .entry)) ⌝ }
+    requires { ⌜ Ready (now s) (now store) (held-by base word) (follow (opened (flows base-mode (pdu (depth-limit - left) (flow base-mode depth-limit left))) 1016) (now s) (from at)) ⌝ }
+    ensures { λ r. ⌜ filled r (now (store .exit)) ≡ fills (held-by base word) (follow (opened (flows base-mode (pdu (depth-limit - left) (flow base-mode depth-limit left))) 1016) (now (s .entry)) (from at)) (now (store .entry)) ⌝ }
 {
     let parent = index_at(base, word);
     let mut cur = at + 4;

@@ -6,9 +6,11 @@ ghost use Rattle.reading.specs.Cursor.{times, follow};
 ghost use Rattle.reading.specs.Layout.{opened, flows, flow, pdu};
 ghost use Rattle.reading.proofs.Counts.{counted};
 ghost use Rattle.xdr.specs.Shown.{place};
+ghost use Rattle.layout.specs.Chain.{mode-of};
 ghost use Rattle.layout.specs.Scanned.{Scan, scanned-out};
 use flow_layouts::data;
 use flow_layouts::wireless::Extended80211Aggregation;
+use layout::field::Mode;
 use layout::frames::Frame;
 use layout::frames::Scanned;
 use xdr::Cursor;
@@ -16,15 +18,15 @@ use xdr::Passed;
 use xdr::Word;
 
 // n flow records in a row, with `left` levels left for each.
-pub fn flow_records(s: &[u8], c: Cursor, n: u32, left: usize, count: usize) -> Scanned
+pub fn flow_records(s: &[u8], c: Cursor, n: u32, left: usize, mode: Mode, count: usize) -> Scanned
     requires { ⌜ Scan (now s) c count ⌝ }
-    ensures { λ r. ⌜ scanned-out r ≡ counted count (times n (follow (flow depth-limit left)) (now (s .entry)) (place c)) ⌝ }
+    ensures { λ r. ⌜ scanned-out r ≡ counted count (times n (follow (flow (mode-of mode) depth-limit left)) (now (s .entry)) (place c)) ⌝ }
 {
     let mut cur = c;
     let mut found = count;
     let mut rest = n;
     while 0 < rest {
-        match flow_record(s, cur, left, found) {
+        match flow_record(s, cur, left, mode, found) {
             Scanned::Stop(r) => {
                 return Scanned::Stop(r);
             }
@@ -39,9 +41,9 @@ pub fn flow_records(s: &[u8], c: Cursor, n: u32, left: usize, count: usize) -> S
 }
 
 // One flow record; where no level is left it may not begin.
-fn flow_record(s: &[u8], c: Cursor, left: usize, count: usize) -> Scanned
+fn flow_record(s: &[u8], c: Cursor, left: usize, mode: Mode, count: usize) -> Scanned
     requires { ⌜ Scan (now s) c count ⌝ }
-    ensures { λ r. ⌜ scanned-out r ≡ counted count (follow (flow depth-limit left) (now (s .entry)) (place c)) ⌝ }
+    ensures { λ r. ⌜ scanned-out r ≡ counted count (follow (flow (mode-of mode) depth-limit left) (now (s .entry)) (place c)) ⌝ }
 {
     if left == 0 {
         return Scanned::Stop(c.refusal(8));
@@ -55,7 +57,7 @@ fn flow_record(s: &[u8], c: Cursor, left: usize, count: usize) -> Scanned
                 at: start,
                 steps: e.steps,
             };
-            match flow_data(&s[..end], inner, format, left - 1, count + 1) {
+            match flow_data(&s[..end], inner, format, left - 1, mode, count + 1) {
                 Scanned::Stop(r) => Scanned::Stop(r),
                 Scanned::Got(d, k) => Scanned::Got(
                     Cursor {
@@ -70,43 +72,43 @@ fn flow_record(s: &[u8], c: Cursor, left: usize, count: usize) -> Scanned
 }
 
 // What a flow record of this format holds, with `left` levels left below it.
-fn flow_data(s: &[u8], c: Cursor, format: u32, left: usize, count: usize) -> Scanned
+fn flow_data(s: &[u8], c: Cursor, format: u32, left: usize, mode: Mode, count: usize) -> Scanned
     requires { ⌜ Scan (now s) c count ⌝ }
-    ensures { λ r. ⌜ scanned-out r ≡ counted count (follow (opened (flows (pdu (depth-limit - left) (flow depth-limit left))) format) (now (s .entry)) (place c)) ⌝ }
+    ensures { λ r. ⌜ scanned-out r ≡ counted count (follow (opened (flows (mode-of mode) (pdu (depth-limit - left) (flow (mode-of mode) depth-limit left))) format) (now (s .entry)) (place c)) ⌝ }
 {
     if format == 1016 {
-        return aggregation(s, c, left, count);
+        return aggregation(s, c, left, mode, count);
     }
-    match data::pass(c, s, format) {
+    match data::pass(c, s, format, mode) {
         Passed::Stop(r) => Scanned::Stop(r),
         Passed::Got(d) => Scanned::Got(d, count),
     }
 }
 
 // An aggregation: a PDU count and its PDUs.
-fn aggregation(s: &[u8], c: Cursor, left: usize, count: usize) -> Scanned
+fn aggregation(s: &[u8], c: Cursor, left: usize, mode: Mode, count: usize) -> Scanned
     requires { ⌜ Scan (now s) c count ⌝ }
-    ensures { λ r. ⌜ scanned-out r ≡ counted count (follow (opened (flows (pdu (depth-limit - left) (flow depth-limit left))) 1016) (now (s .entry)) (place c)) ⌝ }
+    ensures { λ r. ⌜ scanned-out r ≡ counted count (follow (opened (flows (mode-of mode) (pdu (depth-limit - left) (flow (mode-of mode) depth-limit left))) 1016) (now (s .entry)) (place c)) ⌝ }
 {
     let head = Extended80211Aggregation::parse(Passed::Got(c), s);
     let outcome = head.outcome;
     let n = head.pdu_count;
     match outcome.passed() {
         Passed::Stop(r) => Scanned::Stop(r),
-        Passed::Got(d) => pdus(s, d, n, left, count),
+        Passed::Got(d) => pdus(s, d, n, left, mode, count),
     }
 }
 
 // n PDUs in a row.
-fn pdus(s: &[u8], c: Cursor, n: u32, left: usize, count: usize) -> Scanned
+fn pdus(s: &[u8], c: Cursor, n: u32, left: usize, mode: Mode, count: usize) -> Scanned
     requires { ⌜ Scan (now s) c count ⌝ }
-    ensures { λ r. ⌜ scanned-out r ≡ counted count (times n (follow (pdu (depth-limit - left) (flow depth-limit left))) (now (s .entry)) (place c)) ⌝ }
+    ensures { λ r. ⌜ scanned-out r ≡ counted count (times n (follow (pdu (depth-limit - left) (flow (mode-of mode) depth-limit left))) (now (s .entry)) (place c)) ⌝ }
 {
     let mut cur = c;
     let mut found = count;
     let mut rest = n;
     while 0 < rest {
-        match one_pdu(s, cur, left, found) {
+        match one_pdu(s, cur, left, mode, found) {
             Scanned::Stop(r) => {
                 return Scanned::Stop(r);
             }
@@ -121,12 +123,12 @@ fn pdus(s: &[u8], c: Cursor, n: u32, left: usize, count: usize) -> Scanned
 }
 
 // One PDU: a record count and its records.
-fn one_pdu(s: &[u8], c: Cursor, left: usize, count: usize) -> Scanned
+fn one_pdu(s: &[u8], c: Cursor, left: usize, mode: Mode, count: usize) -> Scanned
     requires { ⌜ Scan (now s) c count ⌝ }
-    ensures { λ r. ⌜ scanned-out r ≡ counted count (follow (pdu (depth-limit - left) (flow depth-limit left)) (now (s .entry)) (place c)) ⌝ }
+    ensures { λ r. ⌜ scanned-out r ≡ counted count (follow (pdu (depth-limit - left) (flow (mode-of mode) depth-limit left)) (now (s .entry)) (place c)) ⌝ }
 {
     match c.read_u32(s) {
         Word::Stop(r) => Scanned::Stop(r),
-        Word::Got(n, d) => flow_records(s, d, n, left, count + 1),
+        Word::Got(n, d) => flow_records(s, d, n, left, mode, count + 1),
     }
 }

@@ -6,6 +6,7 @@ use Prim.Native.Nat.{ℕ}
 use mathlib.Core.List.{List}
 use lib.ListN.{getD}
 use denote.Ref.{now, at-last}
+use Rattle.reading.specs.Layout.{memo}
 use Rattle.reading.specs.Answer.{one, run, payload-span, whole-span, list-word, segment-at}
 use Rattle.xdr.specs.Shown.{span, answer-of}
 use Rattle.xdr.proofs.Settles.{Settles, settled}
@@ -25,13 +26,13 @@ module _ (κs s store : _) where
   pub decode-settled : Settles
       (λ (r : Decoded × List ℕ) e. call.latchplume_decode.Reads.Learnt κs (s, (store, tt)) (r .0) (e, (at-last store (r .1), tt)))
       (λ r. decoded (r .0) (r .1))
-      (one (now s) (now store))
+      (one memo (now s) (now store))
   decode-settled = settled decoded-lossless
 
   pub decode-run-settled : Settles
       (λ (r : Answer × List ℕ) e. call.latchplume_decode_run.Reads.Learnt κs (s, (store, tt)) (r .0) (e, (at-last store (r .1), tt)))
       (λ r. ran (r .0) (r .1))
-      (run (now s) (now store))
+      (run memo (now s) (now store))
   decode-run-settled = settled ran-lossless
 
 -- ---- what they lead to

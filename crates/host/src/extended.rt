@@ -1,6 +1,7 @@
 // Made by layouts/make from layouts/table.
 // What a switch, a router or a server adds to a sampled packet.
 ghost use mathlib.Core.Path.{_≡_};
+ghost use Rattle.reading.specs.Layout.{memo};
 ghost use Rattle.xdr.specs.Shown.{answer-of};
 ghost use Rattle.flow_layouts.specs.Shown.{extended-switch, extended-router, extended-gateway, extended-user, extended-url, extended-nat, extended-vlan-tunnel};
 ghost use Rattle.fields.specs.Shown.{read-at};
@@ -16,7 +17,7 @@ use flow_layouts::extended::ExtendedVlanTunnel;
 
 #[no_mangle]
 pub extern "C" fn latchplume_read_extended_switch(s: &[u8], d: &Words) -> ExtendedSwitch
-    ensures { λ r. ⌜ answer-of (r .outcome) (extended-switch r) ≡ read-at 2 1001 (now (s .entry)) (now (d .entry)) ⌝ }
+    ensures { λ r. ⌜ answer-of (r .outcome) (extended-switch r) ≡ read-at memo 2 1001 (now (s .entry)) (now (d .entry)) ⌝ }
 {
     let asked = ask(s, d, 2, 1001);
     let passed = asked.passed;
@@ -25,7 +26,7 @@ pub extern "C" fn latchplume_read_extended_switch(s: &[u8], d: &Words) -> Extend
 
 #[no_mangle]
 pub extern "C" fn latchplume_read_extended_router(s: &[u8], d: &Words) -> ExtendedRouter
-    ensures { λ r. ⌜ answer-of (r .outcome) (extended-router r) ≡ read-at 2 1002 (now (s .entry)) (now (d .entry)) ⌝ }
+    ensures { λ r. ⌜ answer-of (r .outcome) (extended-router r) ≡ read-at memo 2 1002 (now (s .entry)) (now (d .entry)) ⌝ }
 {
     let asked = ask(s, d, 2, 1002);
     let passed = asked.passed;
@@ -34,7 +35,7 @@ pub extern "C" fn latchplume_read_extended_router(s: &[u8], d: &Words) -> Extend
 
 #[no_mangle]
 pub extern "C" fn latchplume_read_extended_gateway(s: &[u8], d: &Words) -> ExtendedGateway
-    ensures { λ r. ⌜ answer-of (r .outcome) (extended-gateway r) ≡ read-at 2 1003 (now (s .entry)) (now (d .entry)) ⌝ }
+    ensures { λ r. ⌜ answer-of (r .outcome) (extended-gateway r) ≡ read-at memo 2 1003 (now (s .entry)) (now (d .entry)) ⌝ }
 {
     let asked = ask(s, d, 2, 1003);
     let passed = asked.passed;
@@ -43,7 +44,7 @@ pub extern "C" fn latchplume_read_extended_gateway(s: &[u8], d: &Words) -> Exten
 
 #[no_mangle]
 pub extern "C" fn latchplume_read_extended_user(s: &[u8], d: &Words) -> ExtendedUser
-    ensures { λ r. ⌜ answer-of (r .outcome) (extended-user r) ≡ read-at 2 1004 (now (s .entry)) (now (d .entry)) ⌝ }
+    ensures { λ r. ⌜ answer-of (r .outcome) (extended-user r) ≡ read-at memo 2 1004 (now (s .entry)) (now (d .entry)) ⌝ }
 {
     let asked = ask(s, d, 2, 1004);
     let passed = asked.passed;
@@ -52,7 +53,7 @@ pub extern "C" fn latchplume_read_extended_user(s: &[u8], d: &Words) -> Extended
 
 #[no_mangle]
 pub extern "C" fn latchplume_read_extended_url(s: &[u8], d: &Words) -> ExtendedUrl
-    ensures { λ r. ⌜ answer-of (r .outcome) (extended-url r) ≡ read-at 2 1005 (now (s .entry)) (now (d .entry)) ⌝ }
+    ensures { λ r. ⌜ answer-of (r .outcome) (extended-url r) ≡ read-at memo 2 1005 (now (s .entry)) (now (d .entry)) ⌝ }
 {
     let asked = ask(s, d, 2, 1005);
     let passed = asked.passed;
@@ -61,7 +62,7 @@ pub extern "C" fn latchplume_read_extended_url(s: &[u8], d: &Words) -> ExtendedU
 
 #[no_mangle]
 pub extern "C" fn latchplume_read_extended_nat(s: &[u8], d: &Words) -> ExtendedNat
-    ensures { λ r. ⌜ answer-of (r .outcome) (extended-nat r) ≡ read-at 2 1007 (now (s .entry)) (now (d .entry)) ⌝ }
+    ensures { λ r. ⌜ answer-of (r .outcome) (extended-nat r) ≡ read-at memo 2 1007 (now (s .entry)) (now (d .entry)) ⌝ }
 {
     let asked = ask(s, d, 2, 1007);
     let passed = asked.passed;
@@ -70,7 +71,7 @@ pub extern "C" fn latchplume_read_extended_nat(s: &[u8], d: &Words) -> ExtendedN
 
 #[no_mangle]
 pub extern "C" fn latchplume_read_extended_vlan_tunnel(s: &[u8], d: &Words) -> ExtendedVlanTunnel
-    ensures { λ r. ⌜ answer-of (r .outcome) (extended-vlan-tunnel r) ≡ read-at 2 1012 (now (s .entry)) (now (d .entry)) ⌝ }
+    ensures { λ r. ⌜ answer-of (r .outcome) (extended-vlan-tunnel r) ≡ read-at memo 2 1012 (now (s .entry)) (now (d .entry)) ⌝ }
 {
     let asked = ask(s, d, 2, 1012);
     let passed = asked.passed;

@@ -1,6 +1,7 @@
 // Made by layouts/make from layouts/table.
 // What was polled: the counters of an interface, of a VLAN and of the processor.
 ghost use mathlib.Core.Path.{_≡_};
+ghost use Rattle.reading.specs.Layout.{memo};
 ghost use Rattle.xdr.specs.Shown.{answer-of};
 ghost use Rattle.counters.specs.Shown.{generic-interface-counters, ethernet-interface-counters, token-ring-counters, vg100-interface-counters, vlan-counters, processor-counters};
 ghost use Rattle.fields.specs.Shown.{read-at};
@@ -18,7 +19,7 @@ pub extern "C" fn latchplume_read_generic_interface_counters(
     s: &[u8],
     d: &Words,
 ) -> GenericInterfaceCounters
-    ensures { λ r. ⌜ answer-of (r .outcome) (generic-interface-counters r) ≡ read-at 3 1 (now (s .entry)) (now (d .entry)) ⌝ }
+    ensures { λ r. ⌜ answer-of (r .outcome) (generic-interface-counters r) ≡ read-at memo 3 1 (now (s .entry)) (now (d .entry)) ⌝ }
 {
     let asked = ask(s, d, 3, 1);
     let passed = asked.passed;
@@ -30,7 +31,7 @@ pub extern "C" fn latchplume_read_ethernet_interface_counters(
     s: &[u8],
     d: &Words,
 ) -> EthernetInterfaceCounters
-    ensures { λ r. ⌜ answer-of (r .outcome) (ethernet-interface-counters r) ≡ read-at 3 2 (now (s .entry)) (now (d .entry)) ⌝ }
+    ensures { λ r. ⌜ answer-of (r .outcome) (ethernet-interface-counters r) ≡ read-at memo 3 2 (now (s .entry)) (now (d .entry)) ⌝ }
 {
     let asked = ask(s, d, 3, 2);
     let passed = asked.passed;
@@ -39,7 +40,7 @@ pub extern "C" fn latchplume_read_ethernet_interface_counters(
 
 #[no_mangle]
 pub extern "C" fn latchplume_read_token_ring_counters(s: &[u8], d: &Words) -> TokenRingCounters
-    ensures { λ r. ⌜ answer-of (r .outcome) (token-ring-counters r) ≡ read-at 3 3 (now (s .entry)) (now (d .entry)) ⌝ }
+    ensures { λ r. ⌜ answer-of (r .outcome) (token-ring-counters r) ≡ read-at memo 3 3 (now (s .entry)) (now (d .entry)) ⌝ }
 {
     let asked = ask(s, d, 3, 3);
     let passed = asked.passed;
@@ -51,7 +52,7 @@ pub extern "C" fn latchplume_read_vg100_interface_counters(
     s: &[u8],
     d: &Words,
 ) -> Vg100InterfaceCounters
-    ensures { λ r. ⌜ answer-of (r .outcome) (vg100-interface-counters r) ≡ read-at 3 4 (now (s .entry)) (now (d .entry)) ⌝ }
+    ensures { λ r. ⌜ answer-of (r .outcome) (vg100-interface-counters r) ≡ read-at memo 3 4 (now (s .entry)) (now (d .entry)) ⌝ }
 {
     let asked = ask(s, d, 3, 4);
     let passed = asked.passed;
@@ -60,7 +61,7 @@ pub extern "C" fn latchplume_read_vg100_interface_counters(
 
 #[no_mangle]
 pub extern "C" fn latchplume_read_vlan_counters(s: &[u8], d: &Words) -> VlanCounters
-    ensures { λ r. ⌜ answer-of (r .outcome) (vlan-counters r) ≡ read-at 3 5 (now (s .entry)) (now (d .entry)) ⌝ }
+    ensures { λ r. ⌜ answer-of (r .outcome) (vlan-counters r) ≡ read-at memo 3 5 (now (s .entry)) (now (d .entry)) ⌝ }
 {
     let asked = ask(s, d, 3, 5);
     let passed = asked.passed;
@@ -69,7 +70,7 @@ pub extern "C" fn latchplume_read_vlan_counters(s: &[u8], d: &Words) -> VlanCoun
 
 #[no_mangle]
 pub extern "C" fn latchplume_read_processor_counters(s: &[u8], d: &Words) -> ProcessorCounters
-    ensures { λ r. ⌜ answer-of (r .outcome) (processor-counters r) ≡ read-at 3 1001 (now (s .entry)) (now (d .entry)) ⌝ }
+    ensures { λ r. ⌜ answer-of (r .outcome) (processor-counters r) ≡ read-at memo 3 1001 (now (s .entry)) (now (d .entry)) ⌝ }
 {
     let asked = ask(s, d, 3, 1001);
     let passed = asked.passed;

@@ -7,14 +7,14 @@ use native.Mathlib.Omega.{arith}
 use borrow.Author.Needs.{needs}
 use borrow.Author.Tests.{leb-true, le-leb, lt-leb}
 use lib.Dec.{leb}
-use lib.ListN.{length, take, drop, getD, take-append-drop}
+use lib.ListN.{length, take, drop, getD, replicate, take-append-drop}
 use lib.Seq.{take-take}
 use Rattle.reading.specs.Bytes.{be4}
 use Rattle.reading.specs.Utf8.{well-formed}
 use Rattle.reading.specs.Script.{Width, six, eight, sixteen, Value, number, octets, part, nothing, Item, word, long, opaque, string}
 use Rattle.reading.specs.Cursor.{got, read-item, times, follow}
-use Rattle.reading.specs.Layout.{Field, plain, mac, any-word, words, bytes}
-use Rattle.reading.specs.Values.{zeros, valued}
+use Rattle.reading.specs.Layout.{Field, plain, mac, any-word, words, bytes, Mode, memo, base, ethernet}
+use Rattle.reading.specs.Values.{zero-field, zeros, valued}
 use Rattle.reading.specs.Answer.{answered}
 use Rattle.reading.proofs.Fields.{field-out, reads-shown, halts-shown, shown-reads, shown-halts, sole-gives, sole-halts, sole-gave, sole-halted, row-halts, rows-halt, rows-give}
 use Rattle.reading.proofs.Words.{numbers-from, numbers, run-row, run-cut}
@@ -36,7 +36,7 @@ use Rattle.xdr.proofs.Inside.{after-item}
 use Rattle.xdr.proofs.Rows.{reads-inside, words-inside}
 use Rattle.layout.specs.declared.lists.Ranged.{Ranged}
 use Rattle.layout.specs.declared.field.Counted.{Counted}
-use Rattle.layout.specs.Chain.{Within, inside, over, Then, goes, halts, stays, Ends, ends, Sure, There, Has-words, loaded-from, loaded, word-of, field-of, no-range, range-of}
+use Rattle.layout.specs.Chain.{Within, inside, over, Then, goes, halts, stays, Ends, ends, Sure, There, Has-words, loaded-from, loaded, word-of, field-of, no-range, range-of, ethernet-width}
 
 joined : {A : Type 0} {l k : List A} (n : ℕ) → take n k ≡ l → l ++ drop n k ≡ k
 joined {A} {l} {k} n e = ap (λ (h : List A). h ++ drop n k) (sym e) ∙ take-append-drop n k
@@ -285,12 +285,12 @@ module _ (s : List ℕ) {p : Passed} (c : Cursor) (h : p ≡ passed.Got c) (i : 
       go (halts {d} {x} f) = halts (sole-halts mac s (place d) {c = x .code} {a = x .at} {n = x .steps} (rw (sole-halted (bytes eight) s (place d) f)))
       go stays = stays
 
-  pub then-six : {w : Width} {x : List ℕ} (padded : Bool) → w ≡ cond padded eight six → Is-block w s c b → x ≡ take 6 (b .bytes) → Then (cond padded mac (bytes six) ∷ []) s p (b .passed) (octets x ∷ [])
-  then-six {x = x} padded y k e = go padded (rw y at k)
+  pub then-six : {w : Width} {x : List ℕ} (mode : Mode) → w ≡ ethernet-width mode → Is-block w s c b → x ≡ take 6 (b .bytes) → Then (ethernet mode ∷ []) s p (b .passed) (octets x ∷ [])
+  then-six {x = x} mode y k e = go mode (rw y at k)
     where
-      go : (t : Bool) → Is-block (cond t eight six) s c b → Then (cond t mac (bytes six) ∷ []) s p (b .passed) (octets x ∷ [])
-      go true k = then-mac k e
-      go false k = rw e (then-reads h i (k .read))
+      go : (m : Mode) → Is-block (ethernet-width m) s c b → Then (ethernet m ∷ []) s p (b .passed) (octets x ∷ [])
+      go memo k = then-mac k e
+      go base k = rw e (then-reads h i (k .read))
 
 -- what is answered by where it lies
 pub range-got : {o : Part} {x : Span} {d : Cursor} → o ≡ a-part.Got x d → record { passed = passed.Got d; span = x } ≡ range-of o
@@ -323,7 +323,12 @@ pub ruleset places = (row-held, row-few, sure-got, sure-back, needs)
 
 pub ruleset parts = (then-got, then-stop, then-on, then-is, ends, ends-on)
 
-pub ruleset rows = (all-read, all-refused, then-on, then-is, ends, ends-on)
+-- an address that was not read is zero in both modes
+pub no-ethernet : (mode : Mode) → octets (replicate 6 0) ≡ zero-field (ethernet mode)
+no-ethernet memo = refl
+no-ethernet base = refl
+
+pub ruleset rows = (no-ethernet, all-read, all-refused, then-on, then-is, ends, ends-on)
 
 -- for a row that is passed
 pub ruleset passing = (within-start, within-ends, row-on, ends, needs)

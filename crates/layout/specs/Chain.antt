@@ -6,9 +6,10 @@ use mathlib.Core.List.{List, [], _∷_}
 use lib.Dec.{leb}
 use lib.ListN.{length, getD}
 use Rattle.reading.specs.Bytes.{be4}
-use Rattle.reading.specs.Script.{Value, number}
+use Rattle.reading.specs.Script.{Width, six, eight, Value, number}
 use Rattle.reading.specs.Cursor.{got}
-use Rattle.reading.specs.Layout.{Field, list, segments}
+use Rattle.reading.specs.Layout as reading
+use Rattle.reading.specs.Layout.{Field, list, segments, memo, base}
 use Rattle.reading.proofs.Fields.{fields-out}
 use Rattle.xdr.specs.declared.Cursor.{Cursor}
 use Rattle.xdr.specs.declared.Outcome.{Outcome}
@@ -17,6 +18,8 @@ use Rattle.xdr.specs.declared.Passed.the-variants as passed
 use Rattle.xdr.specs.declared.Part.{Part}
 use Rattle.xdr.specs.declared.Part.the-variants as a-part
 use Rattle.layout.specs.declared.lists.Ranged.{Ranged}
+use Rattle.layout.specs.declared.field.Mode.{Mode}
+use Rattle.layout.specs.declared.field.Mode.the-variants as a-mode
 use Rattle.layout.specs.declared.field.Counted.{Counted}
 use Rattle.layout.specs.declared.field.Counted.the-variants as a-count
 use Rattle.xdr.specs.Shown.{place, Inside, refusal}
@@ -61,6 +64,17 @@ loaded-from (suc n) w i = number (getD w i 0) ∷ loaded-from n w (i + 1)
 
 abbrev pub loaded : ℕ → List ℕ → List Value
 loaded n w = loaded-from n w 0
+
+-- ---- modes
+
+abbrev pub mode-of : Mode → reading.Mode
+mode-of a-mode.Memo = memo
+mode-of a-mode.Base = base
+
+-- the bytes of an Ethernet address
+abbrev pub ethernet-width : reading.Mode → Width
+ethernet-width memo = eight
+ethernet-width base = six
 
 -- ---- what is answered by where it lies
 

@@ -1,14 +1,13 @@
 // One field of a layout, read behind those before it: where they were passed it is read, and a refusal is handed on.
 ghost use mathlib.Core.Path.{_≡_};
 ghost use mathlib.Core.List.{[], _∷_};
-ghost use mathlib.Core.Bool.{cond};
 ghost use Prim.Native.Nat.{_+_, _*_, _≤_, _<_};
 ghost use lib.ListN.{length, take};
-ghost use Rattle.reading.specs.Script.{number, octets, part, long, opaque, six, eight, sixteen};
-ghost use Rattle.reading.specs.Layout.{plain, protocol, mac, addr, str, words, bytes};
+ghost use Rattle.reading.specs.Script.{number, octets, part, long, opaque, sixteen};
+ghost use Rattle.reading.specs.Layout.{plain, protocol, ethernet, addr, str, words, bytes};
 ghost use Rattle.reading.proofs.Words.{numbers};
 ghost use Rattle.xdr.specs.Shown.{Inside, Reads, refused, span, width, an-address};
-ghost use Rattle.layout.specs.Chain.{Within, Then, There, Has-words, loaded, word-of, field-of, range-of};
+ghost use Rattle.layout.specs.Chain.{Within, Then, There, Has-words, loaded, word-of, field-of, range-of, mode-of, ethernet-width};
 use crate::lists;
 use crate::lists::Ranged;
 use load;
@@ -22,6 +21,12 @@ use xdr::Passed;
 use xdr::Span;
 use xdr::Width;
 use xdr::Word;
+
+// How the addresses of a sampled Ethernet record stand: padded to a multiple of four, as the memo has them, or bare, as the crate reads them.
+pub enum Mode {
+    Memo,
+    Base,
+}
 
 pub struct Number {
     pub passed: Passed,
@@ -176,13 +181,13 @@ pub fn sixteen(p: Passed, s: &[u8]) -> Block
     }
 }
 
-fn six_width(padded: bool) -> Width
-    ensures { λ r. ⌜ width r ≡ cond padded eight six ⌝ }
+fn six_width(mode: Mode) -> Width
+    ensures { λ r. ⌜ width r ≡ ethernet-width (mode-of mode) ⌝ }
 {
-    if padded {
-        return Width::Eight;
+    match mode {
+        Mode::Memo => Width::Eight,
+        Mode::Base => Width::Six,
     }
-    Width::Six
 }
 
 fn first_six(b: [u8; 16]) -> [u8; 6]
@@ -191,10 +196,10 @@ fn first_six(b: [u8; 16]) -> [u8; 6]
     [b[0], b[1], b[2], b[3], b[4], b[5]]
 }
 
-// Six bytes: a block of their own, or the first of a block of eight.
-pub fn six(p: Passed, s: &[u8], padded: bool) -> Mac
+// A MAC address: the first six bytes of a block of eight, and in the base mode a block of six.
+pub fn six(p: Passed, s: &[u8], mode: Mode) -> Mac
     requires { ⌜ Within (now s) p ⌝ }
-    ensures { λ r. ⌜ Then (cond padded mac (bytes six) ∷ []) (now (s .entry)) p (r .passed) (octets (r .bytes) ∷ []) ⌝ }
+    ensures { λ r. ⌜ Then (ethernet (mode-of mode) ∷ []) (now (s .entry)) p (r .passed) (octets (r .bytes) ∷ []) ⌝ }
 {
     match p {
         Passed::Stop(r) => Mac {
@@ -202,7 +207,7 @@ pub fn six(p: Passed, s: &[u8], padded: bool) -> Mac
             bytes: [0u8; 6],
         },
         Passed::Got(c) => {
-            let block = c.read_fixed(s, six_width(padded));
+            let block = c.read_fixed(s, six_width(mode));
             let passed = block.passed;
             let bytes = block.bytes;
             Mac {

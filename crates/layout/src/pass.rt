@@ -1,12 +1,12 @@
 // A row of a layout that is passed, field by field, with nothing kept of it: what the framing needs of a record.
 ghost use mathlib.Core.List.{[], _∷_};
-ghost use mathlib.Core.Bool.{cond};
-ghost use Rattle.reading.specs.Script.{long, opaque, six, sixteen};
-ghost use Rattle.reading.specs.Layout.{plain, protocol, mac, addr, list, segments, str, words, bytes};
+ghost use Rattle.reading.specs.Script.{long, opaque, sixteen};
+ghost use Rattle.reading.specs.Layout.{plain, protocol, ethernet, addr, list, segments, str, words, bytes};
 ghost use Rattle.xdr.specs.Shown.{Inside};
-ghost use Rattle.layout.specs.Chain.{Within, Ends};
+ghost use Rattle.layout.specs.Chain.{Within, Ends, mode-of};
 use crate::field;
 use crate::field::Counted;
+use crate::field::Mode;
 use strings;
 use xdr::Cursor;
 use xdr::Part;
@@ -69,12 +69,12 @@ impl Row {
     }
 
     // Six bytes: a block of their own, or the first of a block of eight.
-    pub fn six(self, s: &[u8], padded: bool) -> Row
+    pub fn six(self, s: &[u8], mode: Mode) -> Row
         requires { ⌜ Within (now s) (self .passed) ⌝ }
-        ensures { λ r. ⌜ Ends (cond padded mac (bytes six) ∷ []) (now (s .entry)) (self .passed) (r .passed) ⌝ }
+        ensures { λ r. ⌜ Ends (ethernet (mode-of mode) ∷ []) (now (s .entry)) (self .passed) (r .passed) ⌝ }
     {
         let p = self.passed;
-        let read = field::six(p, s, padded);
+        let read = field::six(p, s, mode);
         let passed = read.passed;
         Row { passed: passed }
     }

@@ -6,6 +6,8 @@ ghost use Rattle.reading.specs.Sizes.{descriptor-words};
 use datagram::decode::Answer;
 use store::DESCRIPTOR_WORDS;
 
+pub mod asked;
+
 fn word(name: &[u8], w: u32) {
     printing::number(name, w as u64);
 }

@@ -2,13 +2,13 @@
 use Prim.Native.Nat.{ℕ, zero, suc}
 use mathlib.Core.Path.{_≡_, refl}
 use mathlib.Core.Bool.{true}
-use mathlib.Core.List.{List, [], _∷_}
+use mathlib.Core.List.{List, [], _∷_, _++_}
 use native.Mathlib.Omega.{arith}
 use lib.Dec.{eqb, leb}
 use lib.ListN.{length}
 use Rattle.reading.specs.Script.{Value, Found, Script}
 use Rattle.reading.specs.Cursor.{Place, Out, stop, follow}
-use Rattle.reading.specs.Layout.{num, Field, plain, mac, addr, list, segments, address-of, run-of, field, fields, Row, _⟼_, _⟼_each_, opened, Size, u32, u64, widths, Fixed, fixed-rows, framed, flows, flow, counters, counter, samples, datagram-to, datagram}
+use Rattle.reading.specs.Layout.{Mode, memo, base, ethernet, words, num, Field, plain, mac, addr, list, segments, address-of, run-of, field, fields, Row, _⟼_, _⟼_each_, opened, Size, u32, u64, widths, Fixed, fixed-rows, framed, flows, flow, counters, counter, samples, datagram-to, datagram}
 use Rattle.reading.specs.Sizes.{depth-limit}
 use Rattle.reading.specs.Values.{alone}
 use Rattle.reading.specs.Answer.{run-ender, tried, datagrams, layout-at, layout-of}
@@ -63,9 +63,13 @@ fair-at none f = refl
 fair-at (flat {g} e t) f = either (λ (l : List Field). fair l ≡ true) (eqb g f) e (fair-at t f)
 fair-at (counts {g} e h t) f = either (λ (l : List Field). fair l ≡ true) (eqb g f) e (fair-at t f)
 
-coded-flows : {inner : Script} → Coded inner → Rows (flows inner)
+fair-ethernet : (mode : Mode) → fair (words 1 ++ ethernet mode ∷ ethernet mode ∷ words 1) ≡ true
+fair-ethernet memo = refl
+fair-ethernet base = refl
+
+coded-flows : (mode : Mode) {inner : Script} → Coded inner → Rows (flows mode inner)
 unfolding flows
-coded-flows h = search (flat, counts, none) depth 200
+coded-flows mode h = search (flat, counts, none, fair-ethernet) depth 200
 
 -- a fixed layout, and a table of them
 fair-widths : (l : List Size) → fair (widths l) ≡ true
@@ -80,48 +84,48 @@ coded-fixed (x ∷ t) = flat (fair-widths (x .sizes)) (coded-fixed t)
 coded-framed : {kind depth : ℕ} {body : ℕ → Script} → ((f : ℕ) → Coded (body f)) → Coded (framed kind depth body)
 coded-framed h = stands (λ o. reads refl (λ f. opens (h (num f)) (λ x a. gives)))
 
-pub coded-flow : (limit left : ℕ) → Coded (flow limit left)
+pub coded-flow : (mode : Mode) (limit left : ℕ) → Coded (flow mode limit left)
 unfolding flow
-coded-flow limit zero = refuses {c = 8} (omega arith, omega arith)
-coded-flow limit (suc left) = coded-framed (coded-opened (coded-flows (stands (λ o. reads refl (λ n. stands (λ a. repeats (coded-flow limit left) (λ r. stands (λ e. gives))))))))
+coded-flow mode limit zero = refuses {c = 8} (omega arith, omega arith)
+coded-flow mode limit (suc left) = coded-framed (coded-opened (coded-flows mode (stands (λ o. reads refl (λ n. stands (λ a. repeats (coded-flow mode limit left) (λ r. stands (λ e. gives))))))))
 
-coded-samples : (limit : ℕ) → Rows (samples limit)
+coded-samples : (mode : Mode) (limit : ℕ) → Rows (samples mode limit)
 unfolding samples
-coded-samples limit =
-    let f : Coded (flow limit limit) = coded-flow limit limit in
+coded-samples mode limit =
+    let f : Coded (flow mode limit limit) = coded-flow mode limit limit in
     let c : Coded counter = coded-framed (coded-opened (coded-fixed counters)) in
     counts refl f (counts refl c (counts refl f (counts refl c (counts refl f none))))
 
 -- the fields of every descriptor
-pub fair-layout : (kind format : ℕ) → fair (layout-of kind format) ≡ true
+pub fair-layout : (mode : Mode) (kind format : ℕ) → fair (layout-of mode kind format) ≡ true
 unfolding layout-of
-fair-layout zero f = refl
-fair-layout (suc zero) f = fair-at (coded-samples depth-limit) f
-fair-layout (suc (suc zero)) f = fair-at (coded-flows gives) f
-fair-layout (suc (suc (suc zero))) f = fair-at (coded-fixed counters) f
-fair-layout (suc (suc (suc (suc k)))) f = refl
+fair-layout mode zero f = refl
+fair-layout mode (suc zero) f = fair-at (coded-samples mode depth-limit) f
+fair-layout mode (suc (suc zero)) f = fair-at (coded-flows mode gives) f
+fair-layout mode (suc (suc (suc zero))) f = fair-at (coded-fixed counters) f
+fair-layout mode (suc (suc (suc (suc k)))) f = refl
 
 -- ---- a datagram, and a run of them
 
-pub coded-datagram : Coded datagram
+pub coded-datagram : (mode : Mode) → Coded (datagram mode)
 unfolding datagram-to
-coded-datagram = stands (λ a. coded-fields _ refl (λ vs. repeats (coded-framed (coded-opened (coded-samples depth-limit))) (λ r. stands (λ e. gives))))
+coded-datagram mode = stands (λ a. coded-fields _ refl (λ vs. repeats (coded-framed (coded-opened (coded-samples mode depth-limit))) (λ r. stands (λ e. gives))))
 
-pub sure-datagram : (s : List ℕ) (p : Place) → Sure (follow datagram s p)
-sure-datagram = sure coded-datagram
+pub sure-datagram : (mode : Mode) (s : List ℕ) (p : Place) → Sure (follow (datagram mode) s p)
+sure-datagram mode = sure (coded-datagram mode)
 
-pub datagram-coded : {c a n : ℕ} (s : List ℕ) (p : Place) → follow datagram s p ≡ stop c a n → c ≡ 0 → ⊥
-datagram-coded = stop-coded coded-datagram
+pub datagram-coded : (mode : Mode) {c a n : ℕ} (s : List ℕ) (p : Place) → follow (datagram mode) s p ≡ stop c a n → c ≡ 0 → ⊥
+datagram-coded mode = stop-coded (coded-datagram mode)
 
 sure-tried : {o : Out Found} (p : Place) (on : Place → Out Found) → Sure o → ((q : Place) → Sure (on q)) → Sure (tried o p on)
 unfolding tried
 sure-tried p on (fine {p = q}) h = sure-then (h q) (λ f e. fine)
 sure-tried p on (fault {c} k) h = either Sure (eqb c run-ender) fine (fault k)
 
-pub sure-run : (fuel : ℕ) (s : List ℕ) (p : Place) → Sure (datagrams fuel s p)
+pub sure-run : (mode : Mode) (fuel : ℕ) (s : List ℕ) (p : Place) → Sure (datagrams mode fuel s p)
 unfolding datagrams
-sure-run zero s p = fine
-sure-run (suc fuel) s p = either Sure (leb (length s) (p .at)) fine (sure-tried p _ (sure-datagram s p) (λ q. sure-run fuel s q))
+sure-run mode zero s p = fine
+sure-run mode (suc fuel) s p = either Sure (leb (length s) (p .at)) fine (sure-tried p _ (sure-datagram mode s p) (λ q. sure-run mode fuel s q))
 
-pub run-coded : {c a n : ℕ} (fuel : ℕ) (s : List ℕ) (p : Place) → datagrams fuel s p ≡ stop c a n → c ≡ 0 → ⊥
-run-coded fuel s p = not-zero (sure-run fuel s p)
+pub run-coded : (mode : Mode) {c a n : ℕ} (fuel : ℕ) (s : List ℕ) (p : Place) → datagrams mode fuel s p ≡ stop c a n → c ≡ 0 → ⊥
+run-coded mode fuel s p = not-zero (sure-run mode fuel s p)

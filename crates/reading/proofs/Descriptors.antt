@@ -11,7 +11,7 @@ use lib.ListN.{length, getD, take, drop}
 use lib.Seq.{getD-append-add}
 use Rattle.reading.specs.Script.{Value, Range, Forest, bare, tree, Found}
 use Rattle.reading.specs.Cursor.{Place, Out, got, stop, follow}
-use Rattle.reading.specs.Layout.{between, datagram}
+use Rattle.reading.specs.Layout.{Mode, between, datagram}
 use Rattle.reading.specs.Answer.{limited, from, nobody, size, row-of, rows, room, Header, header-of, no-header, Answer, refused, stored, one, datagrams, run, layout-of, Fields, answered, read}
 use Rattle.reading.specs.Sizes.{longest-input, descriptor-words}
 use Rattle.reading.proofs.Fields.{reads-shown}
@@ -27,51 +27,51 @@ pub data Among (r : Range) (inner : Forest) : Forest → Type 0 where
   inside : {o : Range} {within after : Forest} → Among r inner within → Among r inner (tree o within after)
   later : {o : Range} {within after : Forest} → Among r inner after → Among r inner (tree o within after)
 
-of-each : {s : List ℕ} {r : Range} {inner f : Forest} → Readable s f → Among r inner f → read-here (r .kind) (r .format) ≡ true → (vs : List Value) × Holds s r vs inner
+of-each : {mode : Mode} {s : List ℕ} {r : Range} {inner f : Forest} → Readable mode s f → Among r inner f → read-here (r .kind) (r .format) ≡ true → (vs : List Value) × Holds mode s r vs inner
 of-each (also h i j) this k = h k
 of-each (also h i j) (inside m) k = of-each i m k
 of-each (also h i j) (later m) k = of-each j m k
 
 -- field reading of a range, asked for its own kind and format
-abbrev pub read-range : List ℕ → Range → Fields
-read-range s r = read (r .kind) (r .format) s (r .kind) (r .format) (r .span .start) (r .span .count)
+abbrev pub read-range : Mode → List ℕ → Range → Fields
+read-range mode s r = read mode (r .kind) (r .format) s (r .kind) (r .format) (r .span .start) (r .span .count)
 
 abbrev pub gave : List Value → Place → Fields
 gave vs q = record { code = 0; at = q .at; steps = q .steps; values = vs }
 
-fields-read : (s : List ℕ) (r : Range) {vs : List Value} {q : Place} → length s ≤ longest-input → Fields-of s r vs q → read-range s r ≡ gave vs q
+fields-read : (mode : Mode) (s : List ℕ) (r : Range) {vs : List Value} {q : Place} → length s ≤ longest-input → Fields-of mode s r vs q → read-range mode s r ≡ gave vs q
 unfolding read answered
-fields-read s r h f =
+fields-read mode s r h f =
     rw (le-leb (length s) longest-input h, le-leb (r .span .start + r .span .count) (length s) (f .lies), eq-eqb (r .kind) (r .kind) refl, eq-eqb (r .format) (r .format) refl)
-    (ap answered (sym (reads-shown (layout-of (r .kind) (r .format)) (take (r .span .start + r .span .count) s) (from (r .span .start)) (f .reads))))
+    (ap answered (sym (reads-shown (layout-of mode (r .kind) (r .format)) (take (r .span .start + r .span .count) s) (from (r .span .start)) (f .reads))))
 
 -- what field reading gives of a range: the fields of the reading that has `inner` inside the range
-pub record Read-as (s : List ℕ) (r : Range) (inner : Forest) : Type 0 where
+pub record Read-as (mode : Mode) (s : List ℕ) (r : Range) (inner : Forest) : Type 0 where
   pub values : List Value
-  pub holds : Holds s r values inner
-  pub answer : read-range s r ≡ gave values (holds .next)
+  pub holds : Holds mode s r values inner
+  pub answer : read-range mode s r ≡ gave values (holds .next)
 
-module _ (s : List ℕ) (short : length s ≤ longest-input) where
-  reads-each : {r : Range} {inner f : Forest} → Readable s f → Among r inner f → read-here (r .kind) (r .format) ≡ true → Read-as s r inner
-  reads-each {r} h m k = let v = of-each h m k in record { values = v .0; holds = v .1; answer = fields-read s r short (v .1 .fields) }
+module _ (mode : Mode) (s : List ℕ) (short : length s ≤ longest-input) where
+  reads-each : {r : Range} {inner f : Forest} → Readable mode s f → Among r inner f → read-here (r .kind) (r .format) ≡ true → Read-as mode s r inner
+  reads-each {r} h m k = let v = of-each h m k in record { values = v .0; holds = v .1; answer = fields-read mode s r short (v .1 .fields) }
 
   module _ {a : Found} {q : Place} where
     -- a range anywhere in the datagram
-    pub field-reading-accepts : follow datagram s (from 0) ≡ got a q → {r : Range} {inner : Forest}
-        → Among r inner (a .ranges) → read-here (r .kind) (r .format) ≡ true → Read-as s r inner
-    field-reading-accepts e = reads-each (accepted-readable s (from 0) (omega arith) e)
+    pub field-reading-accepts : follow (datagram mode) s (from 0) ≡ got a q → {r : Range} {inner : Forest}
+        → Among r inner (a .ranges) → read-here (r .kind) (r .format) ≡ true → Read-as mode s r inner
+    field-reading-accepts e = reads-each (accepted-readable mode s (from 0) (omega arith) e)
 
     -- the datagram's own: the values of its header
-    pub header-reading-accepts : follow datagram s (from 0) ≡ got a q → (p : Place)
-        × (read-range s (record { kind = 0; format = 0; span = between 0 (q .at); depth = 0; first = 0 }) ≡ gave (a .values) p)
+    pub header-reading-accepts : follow (datagram mode) s (from 0) ≡ got a q → (p : Place)
+        × (read-range mode s (record { kind = 0; format = 0; span = between 0 (q .at); depth = 0; first = 0 }) ≡ gave (a .values) p)
     header-reading-accepts e =
-        let d = datagram-of s (from 0) (omega arith) e in
-        (d .holds .next, fields-read s (record { kind = 0; format = 0; span = between 0 (q .at); depth = 0; first = 0 }) short (d .holds .fields))
+        let d = datagram-of mode s (from 0) (omega arith) e in
+        (d .holds .next, fields-read mode s (record { kind = 0; format = 0; span = between 0 (q .at); depth = 0; first = 0 }) short (d .holds .fields))
 
     -- a range anywhere in a run
-    pub run-reading-accepts : (fuel : ℕ) → datagrams fuel s (from 0) ≡ got a q → {r : Range} {inner : Forest}
-        → Among r inner (a .ranges) → read-here (r .kind) (r .format) ≡ true → Read-as s r inner
-    run-reading-accepts fuel e = reads-each (run-readable fuel s (from 0) (omega arith) e)
+    pub run-reading-accepts : (fuel : ℕ) → datagrams mode fuel s (from 0) ≡ got a q → {r : Range} {inner : Forest}
+        → Among r inner (a .ranges) → read-here (r .kind) (r .format) ≡ true → Read-as mode s r inner
+    run-reading-accepts fuel e = reads-each (run-readable mode fuel s (from 0) (omega arith) e)
 
 -- ---- as it stands in the store
 
@@ -113,34 +113,34 @@ stands-in (tree r a b) j p (suc i) rest h =
     go f g e k true t = let m = g (omega (arith, leb-true)) in (m .0, rw (e ∙ k (leb-true (size a) i t)) (later (m .1)))
 
 -- where an answer has code 0, each descriptor in its store that is read here is read
-abbrev pub Stored-read : List ℕ → Answer → Type 0
-Stored-read s a =
+abbrev pub Stored-read : Mode → List ℕ → Answer → Type 0
+Stored-read mode s a =
     a .code ≡ 0 → (i : ℕ) → i < a .needed → read-here (descriptor (a .store) i .kind) (descriptor (a .store) i .format) ≡ true
-    → (inner : Forest) × Read-as s (descriptor (a .store) i) inner
+    → (inner : Forest) × Read-as mode s (descriptor (a .store) i) inner
 
-module _ (s w : List ℕ) where
+module _ (mode : Mode) (s w : List ℕ) where
   stored-reads : (head : List Value → Header) (o : Out Found) → length s ≤ longest-input → ((c a n : ℕ) → o ≡ stop c a n → c ≡ 0 → ⊥)
-      → ((a : Found) (q : Place) → o ≡ got a q → Readable s (a .ranges)) → Stored-read s (stored head o w)
+      → ((a : Found) (q : Place) → o ≡ got a q → Readable mode s (a .ranges)) → Stored-read mode s (stored head o w)
   unfolding stored
   stored-reads head (got a q) short coded readable =
-      either (Stored-read s) (leb (size (a .ranges)) (room w))
-      (λ z i l k. let m = stands-in (a .ranges) 0 nobody i (drop (descriptor-words * size (a .ranges)) w) l in (m .0, reads-each s short (readable a q refl) (m .1) k))
+      either (Stored-read mode s) (leb (size (a .ranges)) (room w))
+      (λ z i l k. let m = stands-in (a .ranges) 0 nobody i (drop (descriptor-words * size (a .ranges)) w) l in (m .0, reads-each mode s short (readable a q refl) (m .1) k))
       (λ z. absurd (omega arith))
   stored-reads head (stop c a n) short coded readable = λ z. absurd (coded c a n refl z)
 
-  within-limit : (x : Answer) → (length s ≤ longest-input → Stored-read s x) → Stored-read s (limited s x (refused 1 0 0 0 w))
+  within-limit : (x : Answer) → (length s ≤ longest-input → Stored-read mode s x) → Stored-read mode s (limited s x (refused 1 0 0 0 w))
   within-limit x h = go (leb (length s) longest-input) refl
     where
-      go : (b : Bool) → leb (length s) longest-input ≡ b → Stored-read s (cond b x (refused 1 0 0 0 w))
+      go : (b : Bool) → leb (length s) longest-input ≡ b → Stored-read mode s (cond b x (refused 1 0 0 0 w))
       go true e = h (leb-true (length s) longest-input e)
       go false e = λ z. absurd (omega arith)
 
-  pub stored-reading-accepts : Stored-read s (one s w)
+  pub stored-reading-accepts : Stored-read mode s (one mode s w)
   unfolding one
   stored-reading-accepts = within-limit _ (λ h.
-      stored-reads header-of (follow datagram s (from 0)) h (λ c a n. datagram-coded s (from 0)) (λ a q. accepted-readable s (from 0) (omega arith)))
+      stored-reads header-of (follow (datagram mode) s (from 0)) h (λ c a n. datagram-coded mode s (from 0)) (λ a q. accepted-readable mode s (from 0) (omega arith)))
 
-  pub stored-run-reading-accepts : Stored-read s (run s w)
+  pub stored-run-reading-accepts : Stored-read mode s (run mode s w)
   unfolding run
   stored-run-reading-accepts = within-limit _ (λ h.
-      stored-reads (λ _. no-header) (datagrams (length s) s (from 0)) h (λ c a n. run-coded (length s) s (from 0)) (λ a q. run-readable (length s) s (from 0) (omega arith)))
+      stored-reads (λ _. no-header) (datagrams mode (length s) s (from 0)) h (λ c a n. run-coded mode (length s) s (from 0)) (λ a q. run-readable mode (length s) s (from 0) (omega arith)))

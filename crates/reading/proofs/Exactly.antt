@@ -9,33 +9,33 @@ use lib.Seq.{length-take-le}
 use Rattle.reading.specs.Script.{Found, Script}
 use Rattle.reading.specs.Cursor.{Place, got, follow}
 use Rattle.reading.specs.Grammar.{Is}
-use Rattle.reading.specs.Layout.{datagram}
+use Rattle.reading.specs.Layout.{Mode, datagram}
 use Rattle.reading.proofs.Stands.{place, held, wider}
 use Rattle.reading.proofs.Complete.{complete}
 use Rattle.reading.proofs.Sound.{sound}
 
 -- a reading of s: it begins with bytes that are a datagram, and `rest` is left over
-pub record Reading (s : List ℕ) (f : Found) (bytes : ℕ) (items : ℕ) : Type 0 where
+pub record Reading (mode : Mode) (s : List ℕ) (f : Found) (bytes : ℕ) (items : ℕ) : Type 0 where
   pub read : List ℕ
   pub rest : List ℕ
   pub joined : s ≡ read ++ rest
   pub long : length read ≡ bytes
-  pub is : Is datagram 0 read f items
+  pub is : Is (datagram mode) 0 read f items
 
-pub accepted-is-read : (s : List ℕ) (f : Found) (n k : ℕ) → follow datagram s (place 0 0) ≡ got f (place n k) → Reading s f n k
-accepted-is-read s f n k h =
-    let r = sound datagram s (place 0 0) f (place n k) (omega arith) h in
-    record { read = r .read; rest = r .rest; joined = r .stands .there; long = sym (r .at ∙ zero-add _); is = subst (λ (m : ℕ). Is datagram 0 (r .read) f m) (sym (r .steps ∙ zero-add _)) (r .is) }
+pub accepted-is-read : (mode : Mode) (s : List ℕ) (f : Found) (n k : ℕ) → follow (datagram mode) s (place 0 0) ≡ got f (place n k) → Reading mode s f n k
+accepted-is-read mode s f n k h =
+    let r = sound (datagram mode) s (place 0 0) f (place n k) (omega arith) h in
+    record { read = r .read; rest = r .rest; joined = r .stands .there; long = sym (r .at ∙ zero-add _); is = subst (λ (m : ℕ). Is (datagram mode) 0 (r .read) f m) (sym (r .steps ∙ zero-add _)) (r .is) }
 
-pub read-is-accepted : (s : List ℕ) (f : Found) (n k : ℕ) → Reading s f n k → follow datagram s (place 0 0) ≡ got f (place n k)
-read-is-accepted s f n k r =
-    complete datagram s (r .read) (r .rest) f 0 0 k (r .is) (record { there = r .joined; fits = rw (r .joined, length-append) (omega arith) })
+pub read-is-accepted : (mode : Mode) (s : List ℕ) (f : Found) (n k : ℕ) → Reading mode s f n k → follow (datagram mode) s (place 0 0) ≡ got f (place n k)
+read-is-accepted mode s f n k r =
+    complete (datagram mode) s (r .read) (r .rest) f 0 0 k (r .is) (record { there = r .joined; fits = rw (r .joined, length-append) (omega arith) })
     ∙ ap (λ (m : ℕ). got f (place m (0 + k))) (zero-add _ ∙ r .long) ∙ ap (λ (m : ℕ). got f (place n m)) (zero-add k)
 
 -- no input has two readings
-pub one-reading : (s : List ℕ) (f g : Found) (n m k l : ℕ) → Reading s f n k → Reading s g m l → (f ≡ g) × (n ≡ m) × (k ≡ l)
-one-reading s f g n m k l a b =
-    let e : got f (place n k) ≡ got g (place m l) = sym (read-is-accepted s f n k a) ∙ read-is-accepted s g m l b in
+pub one-reading : (mode : Mode) (s : List ℕ) (f g : Found) (n m k l : ℕ) → Reading mode s f n k → Reading mode s g m l → (f ≡ g) × (n ≡ m) × (k ≡ l)
+one-reading mode s f g n m k l a b =
+    let e : got f (place n k) ≡ got g (place m l) = sym (read-is-accepted mode s f n k a) ∙ read-is-accepted mode s g m l b in
     let p : place n k ≡ place m l = cc in
     (cc, ap (λ (q : Place). q .at) p, ap (λ (q : Place). q .steps) p)
 

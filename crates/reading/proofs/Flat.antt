@@ -7,7 +7,7 @@ use borrow.Author.Tests.{ne-eqb}
 use lib.Dec.{eqb}
 use Rattle.reading.specs.Script.{Value, bare, nothing, Script, give}
 use Rattle.reading.specs.Cursor.{Place, Out, got, stop, then, follow}
-use Rattle.reading.specs.Layout.{Field, fields, Row, opened, Fixed, fixed-rows, flows}
+use Rattle.reading.specs.Layout.{Mode, Field, fields, Row, opened, Fixed, fixed-rows, flows}
 use Rattle.reading.proofs.Fields.{fields-out, fields-then}
 use Rattle.reading.proofs.Places.{ranges-of}
 
@@ -42,6 +42,6 @@ fixed-bare t f s p = bare-opened f (fixed-rows t) (go t) s p
     go [] = none
     go (x ∷ t) = flat refl (go t)
 
-pub other-bare : (inner : Script) (f : ℕ) (s : List ℕ) (p : Place) → (f ≡ 1016 → ⊥) → ranges-of (follow (opened (flows inner) f) s p) ≡ bare
+pub other-bare : (mode : Mode) (inner : Script) (f : ℕ) (s : List ℕ) (p : Place) → (f ≡ 1016 → ⊥) → ranges-of (follow (opened (flows mode inner) f) s p) ≡ bare
 unfolding flows
-other-bare inner f s p z = bare-opened f (flows inner) (search (flat, not-this, none) depth 200) s p
+other-bare mode inner f s p z = bare-opened f (flows mode inner) (search (flat, not-this, none) depth 200) s p

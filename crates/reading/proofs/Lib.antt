@@ -29,3 +29,5 @@ pub mod Codes
 pub mod Holding
 pub mod Readable
 pub mod Descriptors
+pub mod Modes
+pub mod RunModes

@@ -9,7 +9,7 @@ use lib.ListN.{length}
 use Rattle.reading.specs.Bytes.{be4}
 use Rattle.reading.specs.Script.{Value, number, Found, nothing, _&&_, word, tested, Script, give, repeat}
 use Rattle.reading.specs.Cursor.{Place, got, stop, Reader, then, on, read-item, times, follow}
-use Rattle.reading.specs.Layout.{Field, addr, fields, Row, last-number, opened, words, Fixed, fixed-rows, ranged, between, framed, pdu, flows, flow, counters, counter, samples, sample, header, datagram-to}
+use Rattle.reading.specs.Layout.{Mode, Field, addr, fields, Row, last-number, opened, words, Fixed, fixed-rows, ranged, between, framed, pdu, flows, flow, counters, counter, samples, sample, header, datagram-to}
 use Rattle.reading.specs.Answer.{size}
 use Rattle.reading.proofs.Items.{never, split}
 use Rattle.reading.proofs.Stands.{place}
@@ -110,17 +110,17 @@ thrifty-pdu depth body t s p a q h e =
     let i = thrifty-times (follow body) t (steps-on body) (f .count) s (f .first) (f .inner) q (rw (f .start) (f .fits)) (f .held) in
     rw (f .found) (omega (arith, f .start))
 
-thrifty-flows : (inner : Script) → Thrifty (follow inner) → All (flows inner)
+thrifty-flows : (mode : Mode) (inner : Script) → Thrifty (follow inner) → All (flows mode inner)
 unfolding flows
-thrifty-flows inner t = search (more, none, thrifty-flat, thrifty-each) depth 200
+thrifty-flows mode inner t = search (more, none, thrifty-flat, thrifty-each) depth 200
 
-pub thrifty-flow : (limit left : ℕ) → Thrifty (follow (flow limit left))
+pub thrifty-flow : (mode : Mode) (limit left : ℕ) → Thrifty (follow (flow mode limit left))
 unfolding flow follow
-thrifty-flow limit zero = λ s p a q h e. never e
-thrifty-flow limit (suc left) =
-    let inner = pdu (limit - left) (flow limit left) in
-    thrifty-framed 2 (limit - left) (opened (flows inner))
-    (thrifty-opened (flows inner) (thrifty-flows inner (thrifty-pdu (limit - left) (flow limit left) (thrifty-flow limit left))))
+thrifty-flow mode limit zero = λ s p a q h e. never e
+thrifty-flow mode limit (suc left) =
+    let inner = pdu (limit - left) (flow mode limit left) in
+    thrifty-framed 2 (limit - left) (opened (flows mode inner))
+    (thrifty-opened (flows mode inner) (thrifty-flows mode inner (thrifty-pdu (limit - left) (flow mode limit left) (thrifty-flow mode limit left))))
 
 thrifty-fixed : (t : List Fixed) → All (fixed-rows t)
 thrifty-fixed [] = none
@@ -129,15 +129,15 @@ thrifty-fixed (x ∷ t) = more (thrifty-flat _) (thrifty-fixed t)
 pub thrifty-counter : Thrifty (follow counter)
 thrifty-counter = thrifty-framed 3 1 (opened (fixed-rows counters)) (thrifty-opened (fixed-rows counters) (thrifty-fixed counters))
 
-thrifty-samples : (limit : ℕ) → All (samples limit)
+thrifty-samples : (mode : Mode) (limit : ℕ) → All (samples mode limit)
 unfolding samples
-thrifty-samples limit =
-    more (thrifty-each _ (flow limit limit) (thrifty-flow limit limit)) (more (thrifty-each _ counter thrifty-counter)
-    (more (thrifty-each _ (flow limit limit) (thrifty-flow limit limit)) (more (thrifty-each _ counter thrifty-counter)
-    (more (thrifty-each _ (flow limit limit) (thrifty-flow limit limit)) none))))
+thrifty-samples mode limit =
+    more (thrifty-each _ (flow mode limit limit) (thrifty-flow mode limit limit)) (more (thrifty-each _ counter thrifty-counter)
+    (more (thrifty-each _ (flow mode limit limit) (thrifty-flow mode limit limit)) (more (thrifty-each _ counter thrifty-counter)
+    (more (thrifty-each _ (flow mode limit limit) (thrifty-flow mode limit limit)) none))))
 
-pub thrifty-sample : (limit : ℕ) → Thrifty (follow (sample limit))
-thrifty-sample limit = thrifty-framed 1 0 (opened (samples limit)) (thrifty-opened (samples limit) (thrifty-samples limit))
+pub thrifty-sample : (mode : Mode) (limit : ℕ) → Thrifty (follow (sample mode limit))
+thrifty-sample mode limit = thrifty-framed 1 0 (opened (samples mode limit)) (thrifty-opened (samples mode limit) (thrifty-samples mode limit))
 
 -- ---- a datagram
 
@@ -146,10 +146,10 @@ abbrev pub whole : ℕ → List Value → Found → Place → Found
 whole i vs r e = record { values = vs; ranges = ranged 0 0 0 i (between i (e .at)) (r .ranges) }
 
 -- a datagram is its header, and then its samples
-pub datagram-is : (limit : ℕ) (s : List ℕ) (p : Place)
-    → follow (datagram-to limit) s p ≡ then (fields-out header s p) (λ vs q. then (times (last-number vs) (follow (sample limit)) s q) (λ r e. got (whole (p .at) vs r e) e))
+pub datagram-is : (mode : Mode) (limit : ℕ) (s : List ℕ) (p : Place)
+    → follow (datagram-to mode limit) s p ≡ then (fields-out header s p) (λ vs q. then (times (last-number vs) (follow (sample mode limit)) s q) (λ r e. got (whole (p .at) vs r e) e))
 unfolding datagram-to follow
-datagram-is limit s p = fields-then header _ s p
+datagram-is mode limit s p = fields-then header _ s p
 
 pub last-place : {A : Type 0} {a b : A} {p q : Place} → got a p ≡ got b q → p ≡ q
 last-place e = cc
@@ -173,22 +173,22 @@ module _ (s : List ℕ) (p : Place) (h : p .at ≤ length s) where
       (omega (arith, i, k .0, y), omega (arith, k .1, y))
 
 -- a datagram passes four bytes for each descriptor, and has one of its own
-passes : (limit : ℕ) (s : List ℕ) (p : Place) (a : Found) (q : Place) → p .at ≤ length s → follow (datagram-to limit) s p ≡ got a q → (4 * size (a .ranges) + p .at ≤ q .at) × (1 ≤ size (a .ranges))
+passes : (mode : Mode) (limit : ℕ) (s : List ℕ) (p : Place) (a : Found) (q : Place) → p .at ≤ length s → follow (datagram-to mode limit) s p ≡ got a q → (4 * size (a .ranges) + p .at ≤ q .at) × (1 ≤ size (a .ranges))
 unfolding size
-passes limit s p a q h e =
-    let w = split (fields-out header s p) _ (sym (datagram-is limit s p) ∙ e) in
+passes mode limit s p a q h e =
+    let w = split (fields-out header s p) _ (sym (datagram-is mode limit s p) ∙ e) in
     let i = header-on s p h (w .first) in
-    let v = split (times (last-number (w .value)) (follow (sample limit)) s (w .place)) _ (w .second) in
-    let k = thrifty-times (follow (sample limit)) (thrifty-sample limit) (steps-on (sample limit)) (last-number (w .value)) s (w .place) (v .value) (v .place) (i .1) (v .first) in
+    let v = split (times (last-number (w .value)) (follow (sample mode limit)) s (w .place)) _ (w .second) in
+    let k = thrifty-times (follow (sample mode limit)) (thrifty-sample mode limit) (steps-on (sample mode limit)) (last-number (w .value)) s (w .place) (v .value) (v .place) (i .1) (v .first) in
     let y = ap (λ (r : Place). r .at) (last-place (v .second)) in
     let g : got (whole (p .at) (w .value) (v .value) (v .place)) (v .place) ≡ got a q = v .second in
     let x : whole (p .at) (w .value) (v .value) (v .place) ≡ a = cc in
     (rw (← x) (omega (arith, i .0, k, y)), rw (← x) (omega arith))
 
-pub thrifty-datagram : (limit : ℕ) → Thrifty (follow (datagram-to limit))
-thrifty-datagram limit s p a q h e = passes limit s p a q h e .0
+pub thrifty-datagram : (mode : Mode) (limit : ℕ) → Thrifty (follow (datagram-to mode limit))
+thrifty-datagram mode limit s p a q h e = passes mode limit s p a q h e .0
 
-pub datagram-on : (limit : ℕ) (s : List ℕ) (p : Place) {a : Found} {q : Place} → p .at ≤ length s → follow (datagram-to limit) s p ≡ got a q → (p .at + 4 ≤ q .at) × (q .at ≤ length s)
-datagram-on limit s p {a} {q} h e =
-    let i = passes limit s p a q h e in
-    (omega (arith, i .0, i .1), steps-on (datagram-to limit) s p a q h e .1)
+pub datagram-on : (mode : Mode) (limit : ℕ) (s : List ℕ) (p : Place) {a : Found} {q : Place} → p .at ≤ length s → follow (datagram-to mode limit) s p ≡ got a q → (p .at + 4 ≤ q .at) × (q .at ≤ length s)
+datagram-on mode limit s p {a} {q} h e =
+    let i = passes mode limit s p a q h e in
+    (omega (arith, i .0, i .1), steps-on (datagram-to mode limit) s p a q h e .1)

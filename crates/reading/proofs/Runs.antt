@@ -9,7 +9,7 @@ use lib.Dec.{eqb, leb}
 use lib.ListN.{length}
 use Rattle.reading.specs.Script.{_⊕_, Found, nothing}
 use Rattle.reading.specs.Cursor.{Place, Out, got, stop, then, follow}
-use Rattle.reading.specs.Layout.{only, datagram}
+use Rattle.reading.specs.Layout.{Mode, only, datagram}
 use Rattle.reading.specs.Sizes.{depth-limit}
 use Rattle.reading.specs.Answer.{size, from, run-ender, tried, datagrams}
 use Rattle.reading.proofs.Items.{never, split}
@@ -19,48 +19,48 @@ use Rattle.reading.proofs.Room.{last-place, thrifty-datagram, datagram-
 use Rattle.reading.proofs.Places.{Accepted, end-of, given}
 
 -- ---- whatever the fuel, where there is enough of it
-module _ (s : List ℕ) where
-  over : (n : ℕ) (p : Place) → length s ≤ p .at → datagrams n s p ≡ got nothing p
+module _ (mode : Mode) (s : List ℕ) where
+  over : (n : ℕ) (p : Place) → length s ≤ p .at → datagrams mode n s p ≡ got nothing p
   unfolding datagrams
   over zero p h = refl
   over (suc n) p h = rw (le-leb (length s) (p .at) h)
 
-  enough : (n m : ℕ) (p : Place) → p .at ≤ length s → length s ≤ n + p .at → length s ≤ m + p .at → datagrams n s p ≡ datagrams m s p
+  enough : (n m : ℕ) (p : Place) → p .at ≤ length s → length s ≤ n + p .at → length s ≤ m + p .at → datagrams mode n s p ≡ datagrams mode m s p
   unfolding datagrams tried
   enough zero m p i h k = sym (over m p (omega arith))
   enough (suc n) zero p i h k = over (suc n) p (omega arith)
-  enough (suc n) (suc m) p i h k = ap (λ (o : Out Found). cond (leb (length s) (p .at)) (got nothing p) o) (go (λ q. enough n m q) (follow datagram s p) refl)
+  enough (suc n) (suc m) p i h k = ap (λ (o : Out Found). cond (leb (length s) (p .at)) (got nothing p) o) (go (λ q. enough n m q) (follow (datagram mode) s p) refl)
     where
-      go : ((q : Place) → q .at ≤ length s → length s ≤ n + q .at → length s ≤ m + q .at → datagrams n s q ≡ datagrams m s q)
-          → (o : Out Found) → follow datagram s p ≡ o → tried o p (datagrams n s) ≡ tried o p (datagrams m s)
+      go : ((q : Place) → q .at ≤ length s → length s ≤ n + q .at → length s ≤ m + q .at → datagrams mode n s q ≡ datagrams mode m s q)
+          → (o : Out Found) → follow (datagram mode) s p ≡ o → tried o p (datagrams mode n s) ≡ tried o p (datagrams mode m s)
       go again (got d q) e =
-          let f = datagram-on depth-limit s p i e in
+          let f = datagram-on mode depth-limit s p i e in
           ap (λ (u : Out Found). then u (λ f e. got (only (d .ranges ⊕ f .ranges)) e)) (again q (f .1) (omega (arith, f .0, h)) (omega (arith, f .0, k)))
       go again (stop c a n) e = refl
 
   -- the run from p on
   unfoldable pub run-from : Place → Out Found
-  run-from p = datagrams (length s) s p
+  run-from p = datagrams mode (length s) s p
 
   pub run-over : (p : Place) → length s ≤ p .at → run-from p ≡ got nothing p
   unfolding run-from
   run-over p h = over (length s) p h
 
-  pub run-on : (p : Place) → p .at < length s → run-from p ≡ tried (follow datagram s p) p run-from
+  pub run-on : (p : Place) → p .at < length s → run-from p ≡ tried (follow (datagram mode) s p) p run-from
   unfolding run-from datagrams
   run-on p h = enough (length s) (suc (length s)) p (omega arith) (omega arith) (omega arith) ∙ rw (lt-leb (length s) (p .at) h)
 
 -- ---- a run, counted
-module _ (s : List ℕ) (p : Place) (k : ℕ) (h : p .at < length s) where
-  pub run-got : {j : ℕ} {q : Place} → counted k (follow datagram s p) ≡ got j q → counted k (run-from s p) ≡ counted j (run-from s q)
+module _ (mode : Mode) (s : List ℕ) (p : Place) (k : ℕ) (h : p .at < length s) where
+  pub run-got : {j : ℕ} {q : Place} → counted k (follow (datagram mode) s p) ≡ got j q → counted k (run-from mode s p) ≡ counted j (run-from mode s q)
   unfolding counted tried
-  run-got {j} {q} e = ap (counted k) (run-on s p h) ∙ go (follow datagram s p) e
+  run-got {j} {q} e = ap (counted k) (run-on mode s p h) ∙ go (follow (datagram mode) s p) e
     where
-      go : (o : Out Found) → counted k o ≡ got j q → counted k (tried o p (run-from s)) ≡ counted j (run-from s q)
+      go : (o : Out Found) → counted k o ≡ got j q → counted k (tried o p (run-from mode s)) ≡ counted j (run-from mode s q)
       go (got d r) f =
           let x : k + size (d .ranges) ≡ j = cc in
           let y : r ≡ q = cc in
-          rw (← y, ← x) (joined d (run-from s r))
+          rw (← y, ← x) (joined d (run-from mode s r))
         where
           joined : (d : Found) (o : Out Found) → counted k (then o (λ f e. got (only (d .ranges ⊕ f .ranges)) e)) ≡ counted (k + size (d .ranges)) o
           joined d (got f e) =
@@ -69,10 +69,10 @@ module _ (s : List ℕ) (p : Place) (k : ℕ) (h : p .at < length s) where
           joined d (stop c a n) = refl
       go (stop c a n) f = never f
 
-  module _ {c a n : ℕ} (e : counted k (follow datagram s p) ≡ stop c a n) where
-    stops : follow datagram s p ≡ stop c a n
+  module _ {c a n : ℕ} (e : counted k (follow (datagram mode) s p) ≡ stop c a n) where
+    stops : follow (datagram mode) s p ≡ stop c a n
     unfolding counted
-    stops = go (follow datagram s p) e
+    stops = go (follow (datagram mode) s p) e
       where
         go : (o : Out Found) → counted k o ≡ stop c a n → o ≡ stop c a n
         go (got d r) f = never (sym f)
@@ -82,20 +82,20 @@ module _ (s : List ℕ) (p : Place) (k : ℕ) (h : p .at < length s) where
             let m : z ≡ n = cc in
             rw (i, j, m)
 
-    is : run-from s p ≡ tried (stop c a n) p (run-from s)
-    is = run-on s p h ∙ ap (λ (o : Out Found). tried o p (run-from s)) stops
+    is : run-from mode s p ≡ tried (stop c a n) p (run-from mode s)
+    is = run-on mode s p h ∙ ap (λ (o : Out Found). tried o p (run-from mode s)) stops
 
     -- code 2 ends the run, and that datagram has no descriptors
-    pub run-ends : c ≡ 2 → counted k (run-from s p) ≡ got k (record { at = p .at; steps = n })
+    pub run-ends : c ≡ 2 → counted k (run-from mode s p) ≡ got k (record { at = p .at; steps = n })
     unfolding counted tried size
     run-ends z = ap (counted k) is ∙ rw z (ap (λ (m : ℕ). got m (record { at = p .at; steps = n })) (omega arith))
 
-    pub run-stops : (c ≡ 2 → ⊥) → counted k (run-from s p) ≡ stop c a n
+    pub run-stops : (c ≡ 2 → ⊥) → counted k (run-from mode s p) ≡ stop c a n
     unfolding counted tried
     run-stops z = ap (counted k) is ∙ rw (ne-eqb c 2 z)
 
 -- ---- a run that is accepted, whatever the steps before it
-module _ (s : List ℕ) where
+module _ (mode : Mode) (s : List ℕ) where
   -- nothing more is found at p
   none : (p : Place) (a : Found) (q : Place) → p .at ≤ length s → got nothing p ≡ got a q → (4 * size (a .ranges) + p .at ≤ q .at) × (q .at ≤ length s)
   unfolding size
@@ -109,31 +109,31 @@ module _ (s : List ℕ) where
   alike-tried p q f g e (both-got {p = i} {q = j} h) k = alike-then _ _ (k i j h) (λ b u v w. both-got w)
   alike-tried p q f g e (both-stop {c}) k = alike-cond (eqb c run-ender) (both-got e) both-stop
 
-  steady-datagrams : (n : ℕ) → Steady (datagrams n s)
+  steady-datagrams : (n : ℕ) → Steady (datagrams mode n s)
   unfolding datagrams
   steady-datagrams zero p q e = both-got e
-  steady-datagrams (suc n) p q e = go (leb (length s) (p .at)) (leb (length s) (q .at)) (ap (leb (length s)) e) _ _ (alike-tried p q (datagrams n s) (datagrams n s) e (steady datagram s p q e) (steady-datagrams n))
+  steady-datagrams (suc n) p q e = go (leb (length s) (p .at)) (leb (length s) (q .at)) (ap (leb (length s)) e) _ _ (alike-tried p q (datagrams mode n s) (datagrams mode n s) e (steady (datagram mode) s p q e) (steady-datagrams n))
     where
       go : (b c : Bool) → b ≡ c → (x y : Out Found) → Alike x y → Alike (cond b (got nothing p) x) (cond c (got nothing q) y)
       go b c z x y h = rw z (alike-cond c (both-got e) h)
 
-  pub steady-run : Steady (run-from s)
+  pub steady-run : Steady (run-from mode s)
   unfolding run-from
   steady-run = steady-datagrams (length s)
 
   -- a run passes four bytes for each descriptor, and stays inside
-  pub thrifty-datagrams : (n : ℕ) (p : Place) {a : Found} {q : Place} → p .at ≤ length s → datagrams n s p ≡ got a q → (4 * size (a .ranges) + p .at ≤ q .at) × (q .at ≤ length s)
+  pub thrifty-datagrams : (n : ℕ) (p : Place) {a : Found} {q : Place} → p .at ≤ length s → datagrams mode n s p ≡ got a q → (4 * size (a .ranges) + p .at ≤ q .at) × (q .at ≤ length s)
   unfolding datagrams tried size
   thrifty-datagrams zero p {a} {q} h e = none p a q h e
-  thrifty-datagrams (suc n) p {a} {q} h e = go (λ r b v. thrifty-datagrams n r {a = b} {q = v}) (leb (length s) (p .at)) (follow datagram s p) refl e
+  thrifty-datagrams (suc n) p {a} {q} h e = go (λ r b v. thrifty-datagrams n r {a = b} {q = v}) (leb (length s) (p .at)) (follow (datagram mode) s p) refl e
     where
-      go : ((r : Place) (b : Found) (v : Place) → r .at ≤ length s → datagrams n s r ≡ got b v → (4 * size (b .ranges) + r .at ≤ v .at) × (v .at ≤ length s))
-          → (b : Bool) (o : Out Found) → follow datagram s p ≡ o → cond b (got nothing p) (tried o p (datagrams n s)) ≡ got a q → (4 * size (a .ranges) + p .at ≤ q .at) × (q .at ≤ length s)
+      go : ((r : Place) (b : Found) (v : Place) → r .at ≤ length s → datagrams mode n s r ≡ got b v → (4 * size (b .ranges) + r .at ≤ v .at) × (v .at ≤ length s))
+          → (b : Bool) (o : Out Found) → follow (datagram mode) s p ≡ o → cond b (got nothing p) (tried o p (datagrams mode n s)) ≡ got a q → (4 * size (a .ranges) + p .at ≤ q .at) × (q .at ≤ length s)
       go again true o f e = none p a q h e
       go again false (got d r) f e =
-          let i = thrifty-datagram depth-limit s p d r h f in
-          let v = split (datagrams n s r) _ e in
-          let j = again r (v .value) (v .place) (datagram-on depth-limit s p h f .1) (v .first) in
+          let i = thrifty-datagram mode depth-limit s p d r h f in
+          let v = split (datagrams mode n s r) _ e in
+          let j = again r (v .value) (v .place) (datagram-on mode depth-limit s p h f .1) (v .first) in
           let g : got (only (d .ranges ⊕ v .value .ranges)) (v .place) ≡ got a q = v .second in
           let x : only (d .ranges ⊕ v .value .ranges) ≡ a = cc in
           let z = ap (λ (r : Place). r .at) (last-place g) in
@@ -144,10 +144,10 @@ module _ (s : List ℕ) where
           ends true e = none (record { at = p .at; steps = k }) a q h e
           ends false e = never e
 
-  pub thrifty-run : (at : ℕ) {a : Found} {q : Place} → at ≤ length s → run-from s (from at) ≡ got a q → (4 * size (a .ranges) + at ≤ q .at) × (q .at ≤ length s)
+  pub thrifty-run : (at : ℕ) {a : Found} {q : Place} → at ≤ length s → run-from mode s (from at) ≡ got a q → (4 * size (a .ranges) + at ≤ q .at) × (q .at ≤ length s)
   unfolding run-from
   thrifty-run at h e = thrifty-datagrams (length s) (from at) h e
 
-  pub forward-run : (at : ℕ) → at ≤ length s → Accepted (run-from s (from at)) → end-of (run-from s (from at)) ≤ length s
+  pub forward-run : (at : ℕ) → at ≤ length s → Accepted (run-from mode s (from at)) → end-of (run-from mode s (from at)) ≤ length s
   unfolding end-of
-  forward-run at h g = let t = given (run-from s (from at)) g in rw (t .is) (thrifty-run at h (t .is) .1)
+  forward-run at h g = let t = given (run-from mode s (from at)) g in rw (t .is) (thrifty-run at h (t .is) .1)

@@ -8,7 +8,7 @@ use Rattle.reading.specs.Bytes.{be4, padded}
 use Rattle.reading.specs.Utf8.{_&_}
 use Rattle.reading.specs.Script.{Span, Value, number, integer, octets, address, part, Range, Forest, bare, tree, _⊕_, Found, nothing, give}
 use Rattle.reading.specs.Cursor.{Place, Out, got, stop, Reader, then, follow}
-use Rattle.reading.specs.Layout.{num, oct, Field, list, Row, words, fixed-rows, only, flows, counters, samples, header, datagram}
+use Rattle.reading.specs.Layout.{num, oct, Field, list, Row, words, fixed-rows, only, Mode, flows, counters, samples, header, datagram}
 use Rattle.reading.specs.Sizes.{longest-input, depth-limit, descriptor-words}
 use Rattle.reading.specs.Values.{zeros, Reading, valued, reading}
 
@@ -103,8 +103,8 @@ stored head (got a p) w =
     (refused 9 0 (p .steps) (size (a .ranges)) w)
 stored head (stop c a n) w = refused c a n 0 w
 
-unfoldable pub one : (input store : List ℕ) → Answer
-one s w = limited s (stored header-of (follow datagram s (from 0)) w) (refused 1 0 0 0 w)
+unfoldable pub one : Mode → (input store : List ℕ) → Answer
+one mode s w = limited s (stored header-of (follow (datagram mode) s (from 0)) w) (refused 1 0 0 0 w)
 
 -- ---- a run of datagrams
 
@@ -118,16 +118,16 @@ tried (got d q) p on = then (on q) (λ f e. got (only (d .ranges ⊕ f .ranges))
 tried (stop c a n) p on = cond (eqb c run-ender) (got nothing (record { at = p .at; steps = n })) (stop c a n)
 
 -- datagrams up to the end of the input; `fuel` bounds their number
-unfoldable pub datagrams : (fuel : ℕ) → Reader Found
-datagrams zero s p = got nothing p
-datagrams (suc fuel) s p =
+unfoldable pub datagrams : Mode → (fuel : ℕ) → Reader Found
+datagrams mode zero s p = got nothing p
+datagrams mode (suc fuel) s p =
     cond (leb (length s) (p .at))
     (got nothing p)
-    (tried (follow datagram s p) p (datagrams fuel s))
+    (tried (follow (datagram mode) s p) p (datagrams mode fuel s))
 
 -- a run has no header: it shows as zero
-unfoldable pub run : (input store : List ℕ) → Answer
-run s w = limited s (stored (λ _. no-header) (datagrams (length s) s (from 0)) w) (refused 1 0 0 0 w)
+unfoldable pub run : Mode → (input store : List ℕ) → Answer
+run mode s w = limited s (stored (λ _. no-header) (datagrams mode (length s) s (from 0)) w) (refused 1 0 0 0 w)
 
 -- ---- field reading
 
@@ -136,12 +136,12 @@ layout-at [] f = []
 layout-at (r ∷ rest) f = cond (eqb (r .format) f) (r .layout) (layout-at rest f)
 
 -- the fields of a descriptor of this kind and format: a datagram's header, a sample's fields before its records, a record's fields
-unfoldable pub layout-of : (kind format : ℕ) → List Field
-layout-of zero f = header
-layout-of (suc zero) f = layout-at (samples depth-limit) f
-layout-of (suc (suc zero)) f = layout-at (flows (give nothing)) f
-layout-of (suc (suc (suc zero))) f = layout-at (fixed-rows counters) f
-layout-of (suc (suc (suc (suc k)))) f = []
+unfoldable pub layout-of : Mode → (kind format : ℕ) → List Field
+layout-of mode zero f = header
+layout-of mode (suc zero) f = layout-at (samples mode depth-limit) f
+layout-of mode (suc (suc zero)) f = layout-at (flows mode (give nothing)) f
+layout-of mode (suc (suc (suc zero))) f = layout-at (fixed-rows counters) f
+layout-of mode (suc (suc (suc (suc k)))) f = []
 
 pub record Fields : Type 0 where
   pub code : ℕ
@@ -162,14 +162,14 @@ abbrev pub unread : List Field → ℕ → Reading
 unread l code = valued l (stop code 0 0)
 
 -- the fields asked for, of the descriptor that is handed in: by their layout from the start of its range, held to it
-unfoldable pub read : (asked-kind asked-format : ℕ) → (input : List ℕ) → (kind format start extent : ℕ) → Fields
-read ak af s k f start extent = answered (limited s
+unfoldable pub read : Mode → (asked-kind asked-format : ℕ) → (input : List ℕ) → (kind format start extent : ℕ) → Fields
+read mode ak af s k f start extent = answered (limited s
     (cond (leb (start + extent) (length s))
     (cond (eqb k ak & eqb f af)
-    (reading (layout-of ak af) (take (start + extent) s) (from start))
-    (unread (layout-of ak af) 11))
-    (unread (layout-of ak af) 10))
-    (unread (layout-of ak af) 1))
+    (reading (layout-of mode ak af) (take (start + extent) s) (from start))
+    (unread (layout-of mode ak af) 11))
+    (unread (layout-of mode ak af) 10))
+    (unread (layout-of mode ak af) 1))
 
 -- ---- what is answered as start and count
 

@@ -10,7 +10,7 @@ use Rattle.reading.specs.Utf8.{among, utf8, longest-to}
 use Rattle.reading.specs.Numbers.{known, header-protocols}
 use Rattle.reading.specs.Script.{Span, Value, number, octets, address, part}
 use Rattle.reading.specs.Cursor.{read-item, follow}
-use Rattle.reading.specs.Layout.{address-of, run-of, field, fields, last-number, opened, flows, flow, counters, samples, datagram-to}
+use Rattle.reading.specs.Layout.{Mode, memo, base, address-of, run-of, field, fields, last-number, opened, flows, flow, counters, samples, datagram-to}
 use Rattle.reading.specs.Values.{valued, reading}
 use Rattle.reading.specs.Answer.{size, rows, Header, header-of, no-header, Answer, stored, one, tried, datagrams, run, layout-of, Fields, answered, read, Listed, list-word, segment-at, payload-span, whole-span}
 
@@ -56,9 +56,13 @@ pub data Result : Type 0 where
   of-word : Listed → Result
 
 pub record Example : Type 0 where
-  pub call : List ℕ → Result
+  pub call : Mode → List ℕ → Result
   pub input : List ℕ
   pub result : Result
+
+-- an example of one mode alone; the others hold in each
+in-mode : Mode → Example → Example
+in-mode m e = record { call = λ _. e .call m; input = e .input; result = e .result }
 
 -- a range that begins at byte 4: a word stands before it and one behind it, and what is read of them is wrong
 around : List ℕ → List ℕ
@@ -69,16 +73,25 @@ around ws = w (0xe1e2e3e4 ∷ ws ++ 0xe5e6e7e8 ∷ [])
 accepts : (kind format : ℕ) → (words : List ℕ) → (at steps : ℕ) → List Value → Example
 unfolding w around
 accepts k f ws a n vs = record {
-  call = λ s. of-fields (read k f s k f 4 (length (w ws)));
+  call = λ mode s. of-fields (read mode k f s k f 4 (length (w ws)));
   input = around ws;
   result = of-fields (record { code = 0; at = a; steps = n; values = vs });
 }
 
--- the same of a range of so many bytes: refused, with the code
+-- the same of a range of so many bytes, of which some are left over
+begins : (kind format : ℕ) → (words : List ℕ) → (extent at steps : ℕ) → List Value → Example
+unfolding around
+begins k f ws l a n vs = record {
+  call = λ mode s. of-fields (read mode k f s k f 4 l);
+  input = around ws;
+  result = of-fields (record { code = 0; at = a; steps = n; values = vs });
+}
+
+-- the same, refused, with the code
 refuses : (kind format : ℕ) → (words : List ℕ) → (extent code at steps : ℕ) → List Value → Example
 unfolding around
 refuses k f ws l c a n vs = record {
-  call = λ s. of-fields (read k f s k f 4 l);
+  call = λ mode s. of-fields (read mode k f s k f 4 l);
   input = around ws;
   result = of-fields (record { code = c; at = a; steps = n; values = vs });
 }
@@ -87,7 +100,7 @@ refuses k f ws l c a n vs = record {
 mistakes : (asked-kind asked-format kind format : ℕ) → (words : List ℕ) → (extent code at steps : ℕ) → List Value → Example
 unfolding around
 mistakes ak af k f ws l c a n vs = record {
-  call = λ s. of-fields (read ak af s k f 4 l);
+  call = λ mode s. of-fields (read mode ak af s k f 4 l);
   input = around ws;
   result = of-fields (record { code = c; at = a; steps = n; values = vs });
 }
@@ -96,7 +109,7 @@ mistakes ak af k f ws l c a n vs = record {
 segment : (words : List ℕ) → (code at steps : ℕ) → List Value → Example
 unfolding around
 segment ws c a n vs = record {
-  call = λ s. of-fields (segment-at s 4);
+  call = λ _ s. of-fields (segment-at s 4);
   input = around ws;
   result = of-fields (record { code = c; at = a; steps = n; values = vs });
 }
@@ -105,7 +118,7 @@ segment ws c a n vs = record {
 pays : (words : List ℕ) → (start extent : ℕ) → (at count : ℕ) → Example
 unfolding around
 pays ws l n a c = record {
-  call = λ s. of-span (payload-span s l n);
+  call = λ _ s. of-span (payload-span s l n);
   input = around ws;
   result = of-span (record { start = a; count = c });
 }
@@ -113,7 +126,7 @@ pays ws l n a c = record {
 stands : (words : List ℕ) → (start extent first : ℕ) → (at count : ℕ) → Example
 unfolding around
 stands ws l n o a c = record {
-  call = λ s. of-span (whole-span s l n o);
+  call = λ _ s. of-span (whole-span s l n o);
   input = around ws;
   result = of-span (record { start = a; count = c });
 }
@@ -122,7 +135,7 @@ stands ws l n o a c = record {
 lists : (words : List ℕ) → (start count index : ℕ) → Bool → (value : ℕ) → Example
 unfolding around
 lists ws l n i there v = record {
-  call = λ s. of-word (list-word s l n i);
+  call = λ _ s. of-word (list-word s l n i);
   input = around ws;
   result = of-word (record { present = there; value = v });
 }
@@ -131,7 +144,7 @@ lists ws l n i there v = record {
 decodes : (words : List ℕ) → (at steps needed : ℕ) → Header → List (List ℕ) → Example
 unfolding w joined
 decodes ws a n k head ds = record {
-  call = λ s. of-input (one s (replicate (length (joined ds)) 165));
+  call = λ mode s. of-input (one mode s (replicate (length (joined ds)) 165));
   input = w ws;
   result = of-input (record { code = 0; at = a; steps = n; needed = k; head = head; store = joined ds });
 }
@@ -140,7 +153,7 @@ decodes ws a n k head ds = record {
 runs : (words : List ℕ) → (at steps needed : ℕ) → List (List ℕ) → Example
 unfolding w joined blank
 runs ws a n k ds = record {
-  call = λ s. of-input (run s (replicate (length (joined ds)) 165));
+  call = λ mode s. of-input (run mode s (replicate (length (joined ds)) 165));
   input = w ws;
   result = of-input (record { code = 0; at = a; steps = n; needed = k; head = blank; store = joined ds });
 }
@@ -149,7 +162,7 @@ runs ws a n k ds = record {
 stops : (words : List ℕ) → (room code at steps needed : ℕ) → Example
 unfolding w blank
 stops ws m c a n k = record {
-  call = λ s. of-input (one s (replicate m 165));
+  call = λ mode s. of-input (one mode s (replicate m 165));
   input = w ws;
   result = of-input (record { code = c; at = a; steps = n; needed = k; head = blank; store = replicate m 165 });
 }
@@ -158,14 +171,14 @@ stops ws m c a n k = record {
 
 -- the flow records
 unfoldable pub flow-records : List Example
-unfolding v4 v6 lies accepts
+unfolding in-mode v4 v6 lies accepts
 flow-records =
     -- sampled_header, format 1: protocol, frame_length, stripped, header
     accepts 2 1 (0x0000000b ∷ 0x11121314 ∷ 0x15161718 ∷ 0x00000005 ∷ 0x191a1b1c ∷ 0x1df1f2f3 ∷ [])
     28 4 (number 11 ∷ number 0x11121314 ∷ number 0x15161718 ∷ lies 20 5 ∷ [])
     -- sampled_ethernet, format 2: length, src_mac, dst_mac, eth_type
-    ∷ accepts 2 2 (0x11121314 ∷ 0x15161718 ∷ 0x191a1b1c ∷ 0x1d1e1f20 ∷ 0x21222324 ∷ [])
-    24 4 (number 0x11121314 ∷ octets (0x15 ∷ 0x16 ∷ 0x17 ∷ 0x18 ∷ 0x19 ∷ 0x1a ∷ []) ∷ octets (0x1b ∷ 0x1c ∷ 0x1d ∷ 0x1e ∷ 0x1f ∷ 0x20 ∷ []) ∷ number 0x21222324 ∷ [])
+    ∷ in-mode memo (accepts 2 2 (0x11121314 ∷ 0x15161718 ∷ 0x191a1b1c ∷ 0x1d1e1f20 ∷ 0x21222324 ∷ 0x25262728 ∷ [])
+    28 4 (number 0x11121314 ∷ octets (0x15 ∷ 0x16 ∷ 0x17 ∷ 0x18 ∷ 0x19 ∷ 0x1a ∷ []) ∷ octets (0x1d ∷ 0x1e ∷ 0x1f ∷ 0x20 ∷ 0x21 ∷ 0x22 ∷ []) ∷ number 0x25262728 ∷ []))
     -- sampled_ipv4, format 3: length, protocol, src_ip, dst_ip, src_port, dst_port, tcp_flags, tos
     ∷ accepts 2 3 (0x11121314 ∷ 0x15161718 ∷ 0x191a1b1c ∷ 0x1d1e1f20 ∷ 0x21222324 ∷ 0x25262728 ∷ 0x292a2b2c ∷ 0x2d2e2f30 ∷ [])
     36 8 (number 0x11121314 ∷ number 0x15161718 ∷ number 0x191a1b1c ∷ number 0x1d1e1f20 ∷ number 0x21222324 ∷ number 0x25262728 ∷ number 0x292a2b2c ∷ number 0x2d2e2f30 ∷ [])
@@ -321,9 +334,33 @@ list-words =
     8 2 2 false 0
     ∷ []
 
+-- a sampled Ethernet record of 20, 23 and 24 bytes, in each mode
+unfoldable pub two-modes : List Example
+unfolding in-mode accepts begins refuses
+two-modes =
+    -- sampled_ethernet, format 2: of 20 bytes
+    in-mode memo (refuses 2 2 (0x11121314 ∷ 0x15161718 ∷ 0x191a1b1c ∷ 0x1d1e1f20 ∷ 0x21222324 ∷ 0x25262728 ∷ []) 20
+    2 24 3 (number 0 ∷ octets (replicate 6 0) ∷ octets (replicate 6 0) ∷ number 0 ∷ []))
+    -- sampled_ethernet, format 2 of 20 bytes, in the base mode
+    ∷ in-mode base (begins 2 2 (0x11121314 ∷ 0x15161718 ∷ 0x191a1b1c ∷ 0x1d1e1f20 ∷ 0x21222324 ∷ 0x25262728 ∷ []) 20
+    24 4 (number 0x11121314 ∷ octets (0x15 ∷ 0x16 ∷ 0x17 ∷ 0x18 ∷ 0x19 ∷ 0x1a ∷ []) ∷ octets (0x1b ∷ 0x1c ∷ 0x1d ∷ 0x1e ∷ 0x1f ∷ 0x20 ∷ []) ∷ number 0x21222324 ∷ []))
+    -- sampled_ethernet, format 2: of 23 bytes
+    ∷ in-mode memo (refuses 2 2 (0x11121314 ∷ 0x15161718 ∷ 0x191a1b1c ∷ 0x1d1e1f20 ∷ 0x21222324 ∷ 0x25262728 ∷ []) 23
+    2 24 3 (number 0 ∷ octets (replicate 6 0) ∷ octets (replicate 6 0) ∷ number 0 ∷ []))
+    -- sampled_ethernet, format 2 of 23 bytes, in the base mode
+    ∷ in-mode base (begins 2 2 (0x11121314 ∷ 0x15161718 ∷ 0x191a1b1c ∷ 0x1d1e1f20 ∷ 0x21222324 ∷ 0x25262728 ∷ []) 23
+    24 4 (number 0x11121314 ∷ octets (0x15 ∷ 0x16 ∷ 0x17 ∷ 0x18 ∷ 0x19 ∷ 0x1a ∷ []) ∷ octets (0x1b ∷ 0x1c ∷ 0x1d ∷ 0x1e ∷ 0x1f ∷ 0x20 ∷ []) ∷ number 0x21222324 ∷ []))
+    -- sampled_ethernet, format 2 of 24 bytes: length, src_mac, dst_mac, eth_type
+    ∷ in-mode memo (accepts 2 2 (0x11121314 ∷ 0x15161718 ∷ 0x191a1b1c ∷ 0x1d1e1f20 ∷ 0x21222324 ∷ 0x25262728 ∷ [])
+    28 4 (number 0x11121314 ∷ octets (0x15 ∷ 0x16 ∷ 0x17 ∷ 0x18 ∷ 0x19 ∷ 0x1a ∷ []) ∷ octets (0x1d ∷ 0x1e ∷ 0x1f ∷ 0x20 ∷ 0x21 ∷ 0x22 ∷ []) ∷ number 0x25262728 ∷ []))
+    -- sampled_ethernet, format 2 of 24 bytes, in the base mode
+    ∷ in-mode base (begins 2 2 (0x11121314 ∷ 0x15161718 ∷ 0x191a1b1c ∷ 0x1d1e1f20 ∷ 0x21222324 ∷ 0x25262728 ∷ []) 24
+    24 4 (number 0x11121314 ∷ octets (0x15 ∷ 0x16 ∷ 0x17 ∷ 0x18 ∷ 0x19 ∷ 0x1a ∷ []) ∷ octets (0x1b ∷ 0x1c ∷ 0x1d ∷ 0x1e ∷ 0x1f ∷ 0x20 ∷ []) ∷ number 0x21222324 ∷ []))
+    ∷ []
+
 -- refusals of field reading, whose values are all zero: what is left out is an input above the limit, code 1
 unfoldable pub refusals : List Example
-unfolding nowhere lies refuses mistakes
+unfolding in-mode nowhere lies refuses mistakes
 refusals =
     -- extended_switch, format 1001: a word is cut
     refuses 2 1001 (0x11121314 ∷ 0x15161718 ∷ 0x191a1b1c ∷ 0x1d1e1f20 ∷ []) 11
@@ -340,9 +377,12 @@ refusals =
     -- extended_80211_rx, format 1014: a u64 is cut
     ∷ refuses 2 1014 (0x00000005 ∷ 0x61626364 ∷ 0x65f1f2f3 ∷ 0x11121314 ∷ 0x15161718 ∷ 0x191a1b1c ∷ 0x1d1e1f20 ∷ 0x21222324 ∷ 0x25262728 ∷ 0x292a2b2c ∷ 0x2d2e2f30 ∷ 0x31323334 ∷ []) 35
     2 32 4 (lies 0 0 ∷ octets (replicate 6 0) ∷ number 0 ∷ number 0 ∷ number 0 ∷ number 0 ∷ number 0 ∷ number 0 ∷ [])
-    -- sampled_ethernet, format 2: a block of six bytes is cut
-    ∷ refuses 2 2 (0x11121314 ∷ 0x15161718 ∷ 0x191a1b1c ∷ 0x1d1e1f20 ∷ 0x21222324 ∷ []) 15
-    2 14 2 (number 0 ∷ octets (replicate 6 0) ∷ octets (replicate 6 0) ∷ number 0 ∷ [])
+    -- sampled_ethernet, format 2: an address is cut, behind the six that are shown
+    ∷ in-mode memo (refuses 2 2 (0x11121314 ∷ 0x15161718 ∷ 0x191a1b1c ∷ 0x1d1e1f20 ∷ 0x21222324 ∷ 0x25262728 ∷ []) 19
+    2 16 2 (number 0 ∷ octets (replicate 6 0) ∷ octets (replicate 6 0) ∷ number 0 ∷ []))
+    -- sampled_ethernet, format 2: an address of six bytes is cut, in the base mode
+    ∷ in-mode base (refuses 2 2 (0x11121314 ∷ 0x15161718 ∷ 0x191a1b1c ∷ 0x1d1e1f20 ∷ 0x21222324 ∷ []) 15
+    2 14 2 (number 0 ∷ octets (replicate 6 0) ∷ octets (replicate 6 0) ∷ number 0 ∷ []))
     -- extended_80211_tx, format 1015: a block of eight bytes is cut, behind the six that are shown
     ∷ refuses 2 1015 (0x00000005 ∷ 0x61626364 ∷ 0x65f1f2f3 ∷ 0x11121314 ∷ 0x15161718 ∷ 0x191a1b1c ∷ 0x1d1e1f20 ∷ 0x21222324 ∷ 0x25262728 ∷ 0x292a2b2c ∷ 0x2d2e2f30 ∷ 0x31323334 ∷ 0x35363738 ∷ []) 19
     2 16 1 (lies 0 0 ∷ octets (replicate 6 0) ∷ number 0 ∷ number 0 ∷ number 0 ∷ number 0 ∷ number 0 ∷ number 0 ∷ number 0 ∷ [])
@@ -496,9 +536,9 @@ undecoded =
     ∷ []
 
 pub examples : List Example
-unfolding flow-records counter-records sample-fields headers segments spans list-words refusals inputs undecoded
-examples = flow-records ++ counter-records ++ sample-fields ++ headers ++ segments ++ spans ++ list-words ++ refusals ++ inputs ++ undecoded
+unfolding flow-records counter-records sample-fields headers segments spans list-words two-modes refusals inputs undecoded
+examples = flow-records ++ counter-records ++ sample-fields ++ headers ++ segments ++ spans ++ list-words ++ two-modes ++ refusals ++ inputs ++ undecoded
 
-pub the-examples-hold : map (λ (e : Example). e .call (e .input)) examples ≡ map (λ (e : Example). e .result) examples
+pub the-examples-hold : (mode : Mode) → map (λ (e : Example). e .call mode (e .input)) examples ≡ map (λ (e : Example). e .result) examples
 unfolding examples be4 be8 among utf8 longest-to known header-protocols follow read-item address-of run-of field fields last-number opened flows flow counters samples datagram-to size rows header-of no-header valued reading layout-of answered read segment-at stored one tried datagrams run list-word payload-span whole-span
-the-examples-hold = refl
+the-examples-hold mode = refl

@@ -99,6 +99,14 @@ words n = replicate n (plain word)
 abbrev pub bytes : Width → Field
 bytes w = plain (block w)
 
+-- how the addresses of a sampled Ethernet record stand: padded to a multiple of four, as the memo has them, or bare, as the crate reads them
+pub data Mode : Type 0 where
+  memo base : Mode
+
+abbrev pub ethernet : Mode → Field
+ethernet memo = mac
+ethernet base = bytes six
+
 abbrev pub str : Field
 str = plain string
 
@@ -174,10 +182,10 @@ pdu d body = here (λ o. item word (λ n. here (λ a. repeat (num n) body (λ r.
 -- ---- the three tables (docs/RULES.md, R3.3, R3.7 and R3.8)
 
 -- the flow records that are opened; `inner` is a PDU of this record
-unfoldable pub flows : (inner : Script) → List Row
-flows inner =
+unfoldable pub flows : Mode → (inner : Script) → List Row
+flows mode inner =
     (1 ⟼ protocol ∷ words 2 ++ plain opaque ∷ [])
-    ∷ (2 ⟼ words 1 ++ bytes six ∷ bytes six ∷ words 1)
+    ∷ (2 ⟼ words 1 ++ ethernet mode ∷ ethernet mode ∷ words 1)
     ∷ (3 ⟼ words 8)
     ∷ (4 ⟼ words 2 ++ bytes sixteen ∷ bytes sixteen ∷ words 4)
     ∷ (1001 ⟼ words 4)
@@ -199,9 +207,9 @@ flows inner =
     ∷ []
 
 -- a flow record, with `left` of the levels to the limit left: where none is left it may not begin
-unfoldable pub flow : (limit left : ℕ) → Script
-flow limit zero = refuse 8
-flow limit (suc left) = framed 2 (limit - left) (opened (flows (pdu (limit - left) (flow limit left))))
+unfoldable pub flow : Mode → (limit left : ℕ) → Script
+flow mode limit zero = refuse 8
+flow mode limit (suc left) = framed 2 (limit - left) (opened (flows mode (pdu (limit - left) (flow mode limit left))))
 
 -- the counter records that are opened, by the widths of their fields
 unfoldable pub counters : List Fixed
@@ -218,27 +226,27 @@ abbrev pub counter : Script
 counter = framed 3 1 (opened (fixed-rows counters))
 
 -- the samples that are opened; their own records have depth 1
-unfoldable pub samples : (limit : ℕ) → List Row
-samples limit =
-    (1 ⟼ words 8 each flow limit limit)  -- sequence, source, rate, pool, drops, input, output, count
+unfoldable pub samples : Mode → (limit : ℕ) → List Row
+samples mode limit =
+    (1 ⟼ words 8 each flow mode limit limit)  -- sequence, source, rate, pool, drops, input, output, count
     ∷ (2 ⟼ words 3 each counter)  -- sequence, source, count
-    ∷ (3 ⟼ words 11 each flow limit limit)  -- as 1, with source, input and output two words each
+    ∷ (3 ⟼ words 11 each flow mode limit limit)  -- as 1, with source, input and output two words each
     ∷ (4 ⟼ words 4 each counter)  -- as 2, with source two words
-    ∷ (5 ⟼ words 8 each flow limit limit)  -- sequence, source two words, drops, input, output, reason, count
+    ∷ (5 ⟼ words 8 each flow mode limit limit)  -- sequence, source two words, drops, input, output, reason, count
     ∷ []
 
-abbrev pub sample : (limit : ℕ) → Script
-sample limit = framed 1 0 (opened (samples limit))
+abbrev pub sample : Mode → (limit : ℕ) → Script
+sample mode limit = framed 1 0 (opened (samples mode limit))
 
 -- version, address, sub-agent, sequence, uptime, sample count
 abbrev pub header : List Field
 header = version ∷ addr ∷ words 4
 
 -- a datagram whose records are no deeper than the limit
-unfoldable pub datagram-to : (limit : ℕ) → Script
-datagram-to limit =
-    here (λ a. fields header (λ vs. repeat (last-number vs) (sample limit) (λ r. here (λ e.
+unfoldable pub datagram-to : Mode → (limit : ℕ) → Script
+datagram-to mode limit =
+    here (λ a. fields header (λ vs. repeat (last-number vs) (sample mode limit) (λ r. here (λ e.
     give (record { values = vs; ranges = ranged 0 0 0 a (between a e) (r .ranges) })))))
 
-abbrev pub datagram : Script
-datagram = datagram-to depth-limit
+abbrev pub datagram : Mode → Script
+datagram mode = datagram-to mode depth-limit

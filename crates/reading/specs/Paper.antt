@@ -6,7 +6,7 @@ use lib.ListN.{length, take, replicate}
 use Rattle.reading.specs.Bytes.{be4}
 use Rattle.reading.specs.Numbers.{known, header-protocols}
 use Rattle.reading.specs.Cursor.{read-item, follow}
-use Rattle.reading.specs.Layout.{address-of, run-of, field, fields, last-number, total, Fixed, opened, flows, flow, counters, samples, datagram-to}
+use Rattle.reading.specs.Layout.{Mode, address-of, run-of, field, fields, last-number, total, Fixed, opened, flows, flow, counters, samples, datagram-to}
 use Rattle.reading.specs.Answer.{size, rows, Header, header-of, no-header, Answer, refused, stored, one, tried, datagrams, run}
 use Rattle.reading.specs.Sizes.{descriptor-words}
 
@@ -64,20 +64,20 @@ joined [] = []
 joined (x ∷ xs) = x ++ joined xs
 
 pub record Session : Type 0 where
-  pub call : List ℕ → List ℕ → Answer
+  pub call : Mode → List ℕ → List ℕ → Answer
   pub input : List ℕ
   pub store : List ℕ
   pub answer : Answer
 
 -- accepted into a store that holds these descriptors and has one word more, which stays
-accepts : (List ℕ → List ℕ → Answer) → List ℕ → (at steps needed : ℕ) → Header → List (List ℕ) → Session
+accepts : (Mode → List ℕ → List ℕ → Answer) → List ℕ → (at steps needed : ℕ) → Header → List (List ℕ) → Session
 unfolding lent joined
 accepts call s a n k head ds =
     let room = length (joined ds) in
     record { call = call; input = s; store = lent (room + 1); answer = record { code = 0; at = a; steps = n; needed = k; head = head; store = joined ds ++ unwritten ∷ [] } }
 
 -- refused, with a store of so many words, which stay
-refuses : (List ℕ → List ℕ → Answer) → List ℕ → (words code at steps needed : ℕ) → Session
+refuses : (Mode → List ℕ → List ℕ → Answer) → List ℕ → (words code at steps needed : ℕ) → Session
 unfolding lent
 refuses call s m c a n k = record { call = call; input = s; store = lent m; answer = refused c a n k (lent m) }
 
@@ -139,6 +139,7 @@ sessions =
     ∷ refuses one (w (flow1 (1 ∷ 8 ∷ 4294967295 ∷ 0 ∷ []))) (holding 4) 6 72 18 0
     ∷ []
 
-pub the-paper-holds : map (λ (t : Session). t .call (t .input) (t .store)) sessions ≡ map (λ (t : Session). t .answer) sessions
+-- in both modes: no session has a sampled Ethernet record
+pub the-paper-holds : (mode : Mode) → map (λ (t : Session). t .call mode (t .input) (t .store)) sessions ≡ map (λ (t : Session). t .answer) sessions
 unfolding sessions be4 known header-protocols follow read-item address-of run-of field fields last-number opened flows flow counters samples datagram-to size rows header-of no-header stored one tried datagrams run
-the-paper-holds = refl
+the-paper-holds mode = refl

@@ -1,5 +1,5 @@
 // Decodes stored inputs, and prints a line for each: the call, its answer, and what it left in the store, or the fields of each
-// descriptor there. The lines that are expected were written by the oracle (tests/replay/make).
+// descriptor there. The lines that are expected were written by the oracle (tests/replay/make) from what the crate reads, so it is the base mode.
 //
 // A case is five bytes and what they announce: 'o' for one datagram, 'f' for one with the fields of its descriptors, or 'r' for a run of
 // them, how many words of store are lent, and how many bytes follow, two bytes each; then those bytes.
@@ -8,6 +8,7 @@ ghost use mathlib.Core.Path.{_≡_};
 ghost use lib.ListN.{length};
 use datagram::decode::decode;
 use datagram::run::decode_run;
+use layout::field::Mode;
 use libc::STDIN_FILENO;
 
 mod each;
@@ -18,7 +19,7 @@ mod records;
 mod values;
 
 fn one(s: &[u8], store: &mut [u32]) {
-    let decoded = decode(s, &mut *store);
+    let decoded = decode(s, &mut *store, Mode::Base);
     let answer = decoded.answer;
     let address = decoded.agent_address;
     printing::text(b"one");
@@ -32,7 +33,7 @@ fn one(s: &[u8], store: &mut [u32]) {
 }
 
 fn with_fields(s: &[u8], store: &mut [u32]) {
-    let decoded = decode(s, &mut *store);
+    let decoded = decode(s, &mut *store, Mode::Base);
     let answer = decoded.answer;
     printing::text(b"fields");
     print::answer(answer);
@@ -40,7 +41,7 @@ fn with_fields(s: &[u8], store: &mut [u32]) {
 }
 
 fn run(s: &[u8], store: &mut [u32]) {
-    let answer = decode_run(s, &mut *store);
+    let answer = decode_run(s, &mut *store, Mode::Base);
     printing::text(b"run");
     print::answer(answer);
     print::left(answer, &*store);

@@ -18,7 +18,7 @@ pub fn sampled_header(s: &[u8], d: &Words) {
 }
 
 pub fn sampled_ethernet(s: &[u8], d: &Words) {
-    let r = sampled::latchplume_read_sampled_ethernet(s, d);
+    let r = host_base::latchplume_read_sampled_ethernet_base(s, d);
     let o = r.outcome;
     values::outcome(o);
     values::word(r.length);

@@ -9,7 +9,7 @@ use Rattle.reading.specs.Sizes.{depth-limit}
 use Rattle.reading.specs.Bytes.{be4}
 use Rattle.reading.specs.Script.{Found, Script}
 use Rattle.reading.specs.Cursor.{Out, times, follow}
-use Rattle.reading.specs.Layout.{words, last-number, opened, fixed-rows, flows, pdu, flow, counters, counter, samples, sample}
+use Rattle.reading.specs.Layout.{base as base-mode, words, last-number, opened, fixed-rows, flows, pdu, flow, counters, counter, samples, sample}
 use Rattle.reading.specs.Answer.{size, from}
 use Rattle.reading.proofs.Words.{numbers, row-got}
 use Rattle.reading.proofs.Places.{Accepted, ranges-of, Each-at, each-lies, words-lie}
@@ -52,18 +52,18 @@ unfolding fills placed
 placed-fills pen o l e = let a = word-is pen o l e in let b = store-is pen o l e in λ h. record { word = a h; store = b h }
 
 -- ---- a sample whose n words are followed by as many of `body` as the last of them says
-pub held-flows : {r : SampleKind} {f n : ℕ} → Is-kind r f → r ≡ kind.Flows n → opened (samples depth-limit) f ≡ counted-by-last n (flow depth-limit depth-limit)
-held-flows q e = q .is ∙ ap held e
+pub held-flows : {r : SampleKind} {f n : ℕ} → Is-kind r f → r ≡ kind.Flows n → opened (samples base-mode depth-limit) f ≡ counted-by-last n (flow base-mode depth-limit depth-limit)
+held-flows q e = q .is base-mode ∙ ap (held base-mode) e
 
-pub held-counters : {r : SampleKind} {f n : ℕ} → Is-kind r f → r ≡ kind.Counters n → opened (samples depth-limit) f ≡ counted-by-last n counter
-held-counters q e = q .is ∙ ap held e
+pub held-counters : {r : SampleKind} {f n : ℕ} → Is-kind r f → r ≡ kind.Counters n → opened (samples base-mode depth-limit) f ≡ counted-by-last n counter
+held-counters q e = q .is base-mode ∙ ap (held base-mode) e
 
 pub kind-some : {r : SampleKind} {f n : ℕ} → Is-kind r f → words-of r ≡ n → 1 ≤ n
 kind-some q e = omega (arith, q .some)
 
-module _ (body : Script) (n : ℕ) (s l : List ℕ) (at : ℕ) (pen : Pen) (f : ℕ) (g : Ready s l pen (follow (opened (samples depth-limit) f) s (from at))) (i : at ≤ length s)
-    (r : opened (samples depth-limit) f ≡ counted-by-last n body) (some : 1 ≤ n) where
-  same : follow (opened (samples depth-limit) f) s (from at) ≡ follow (counted-by-last n body) s (from at)
+module _ (body : Script) (n : ℕ) (s l : List ℕ) (at : ℕ) (pen : Pen) (f : ℕ) (g : Ready s l pen (follow (opened (samples base-mode depth-limit) f) s (from at))) (i : at ≤ length s)
+    (r : opened (samples base-mode depth-limit) f ≡ counted-by-last n body) (some : 1 ≤ n) where
+  same : follow (opened (samples base-mode depth-limit) f) s (from at) ≡ follow (counted-by-last n body) s (from at)
   same = ap (λ (x : Script). follow x s (from at)) r
 
   good : Accepted (follow (counted-by-last n body) s (from at))
@@ -81,7 +81,7 @@ module _ (body : Script) (n : ℕ) (s l : List ℕ) (at : ℕ) (pen : Pen) (f : 
   behind : Each-at (words n) body s at (numbers n s at) (record { at = at + 4 * n; steps = 0 + n })
   behind = each-lies (words n) body s at (row-got s n (from at) fit) good
 
-  same-ranges : ranges-of (follow (opened (samples depth-limit) f) s (from at)) ≡ ranges-of (times (last-number (numbers n s at)) (follow body) s (from (at + 4 * n)))
+  same-ranges : ranges-of (follow (opened (samples base-mode depth-limit) f) s (from at)) ≡ ranges-of (times (last-number (numbers n s at)) (follow body) s (from (at + 4 * n)))
   same-ranges = ap ranges-of same ∙ behind .ranges
 
   module _ {m : ℕ} (v : m ≡ be4 s (at + 4 * n - 4)) where
@@ -93,47 +93,47 @@ module _ (body : Script) (n : ℕ) (s l : List ℕ) (at : ℕ) (pen : Pen) (f : 
         let e = ap size same-ranges in
         rw counts (record { short = g .short; good = behind .inner; room = omega (arith, g .room); few = omega (arith, g .few) })
 
-    pub arm-filled : {k : ℕ} {l′ : List ℕ} → filled k l′ ≡ fills pen (times m (follow body) s (from (at + 4 * n))) l → filled k l′ ≡ fills pen (follow (opened (samples depth-limit) f) s (from at)) l
+    pub arm-filled : {k : ℕ} {l′ : List ℕ} → filled k l′ ≡ fills pen (times m (follow body) s (from (at + 4 * n))) l → filled k l′ ≡ fills pen (follow (opened (samples base-mode depth-limit) f) s (from at)) l
     unfolding fills placed
     arm-filled e = rw same-ranges (rw (← counts) e)
 
 pub ruleset arms = (held-flows, held-counters, flows-words, counters-words, kind-some, placed-fills, needs)
 
-pub raw-filled : {r : SampleKind} (f : ℕ) (s l : List ℕ) (at : ℕ) (pen : Pen) → Is-kind r f → r ≡ kind.Raw → filled (pen .word) l ≡ fills pen (follow (opened (samples depth-limit) f) s (from at)) l
+pub raw-filled : {r : SampleKind} (f : ℕ) (s l : List ℕ) (at : ℕ) (pen : Pen) → Is-kind r f → r ≡ kind.Raw → filled (pen .word) l ≡ fills pen (follow (opened (samples base-mode depth-limit) f) s (from at)) l
 unfolding follow ranges-of
-raw-filled f s l at pen q e = placing.nothing-more (follow (opened (samples depth-limit) f) s (from at)) pen l (ap (λ (x : Script). ranges-of (follow x s (from at))) (q .is ∙ ap held e))
+raw-filled f s l at pen q e = placing.nothing-more (follow (opened (samples base-mode depth-limit) f) s (from at)) pen l (ap (λ (x : Script). ranges-of (follow x s (from at))) (q .is base-mode ∙ ap (held base-mode) e))
 
 -- ---- the flow records of a sample: the flat ones, and the aggregation that they end at
 module _ {s l : List ℕ} {at n : ℕ} {pen : Pen} {r : Flat} {l′ : List ℕ} (h : Flat-of 8 s l at n pen r l′) where
-  pub flat-done : (to : Pen) (o : Out Found) (w : List ℕ) → r .rest ≡ 0 → placed pen (times n (follow (flow depth-limit depth-limit)) s (from at)) l ≡ placed to o w → filled (r .word) l′ ≡ fills to o w
-  flat-done to o w z k = placed-fills {a = r .at} {b = r .word} to o w (placing.put-done (flow depth-limit depth-limit) (r .rest) s l′ (r .at) (pen .base) (pen .parent) (r .word) (h .same) (omega arith) ∙ k)
+  pub flat-done : (to : Pen) (o : Out Found) (w : List ℕ) → r .rest ≡ 0 → placed pen (times n (follow (flow base-mode depth-limit depth-limit)) s (from at)) l ≡ placed to o w → filled (r .word) l′ ≡ fills to o w
+  flat-done to o w z k = placed-fills {a = r .at} {b = r .word} to o w (placing.put-done (flow base-mode depth-limit depth-limit) (r .rest) s l′ (r .at) (pen .base) (pen .parent) (r .word) (h .same) (omega arith) ∙ k)
 
-  pub flat-next : (r .rest ≡ 0 → ⊥) → Ready s l′ (a-pen (pen .base) (pen .parent) (r .word)) (follow (flow depth-limit depth-limit) s (from (r .at)))
-  flat-next z = placing.ready-first (flow depth-limit depth-limit) (r .rest) s l′ (r .at) (pen .base) (pen .parent) (r .word) (h .ready) (omega arith)
+  pub flat-next : (r .rest ≡ 0 → ⊥) → Ready s l′ (a-pen (pen .base) (pen .parent) (r .word)) (follow (flow base-mode depth-limit depth-limit) s (from (r .at)))
+  flat-next z = placing.ready-first (flow base-mode depth-limit depth-limit) (r .rest) s l′ (r .at) (pen .base) (pen .parent) (r .word) (h .ready) (omega arith)
 
   pub flat-less : (r .rest ≡ 0 → ⊥) → r .rest - 1 < n
   flat-less z = omega (arith, h .few)
 
-  pub flat-turn : {a b k : ℕ} {l″ : List ℕ} {m : Put} → (r .rest ≡ 0 → ⊥) → length l ≡ k → placed pen (times n (follow (flow depth-limit depth-limit)) s (from at)) l ≡ m
-      → a-put a b l″ ≡ placed (a-pen (pen .base) (pen .parent) (r .word)) (follow (flow depth-limit depth-limit) s (from (r .at))) l′
-      → (length l″ ≡ k) × Ready s l″ (a-pen (pen .base) (pen .parent) b) (times (r .rest - 1) (follow (flow depth-limit depth-limit)) s (from a))
-      × (placed (a-pen (pen .base) (pen .parent) b) (times (r .rest - 1) (follow (flow depth-limit depth-limit)) s (from a)) l″ ≡ m)
+  pub flat-turn : {a b k : ℕ} {l″ : List ℕ} {m : Put} → (r .rest ≡ 0 → ⊥) → length l ≡ k → placed pen (times n (follow (flow base-mode depth-limit depth-limit)) s (from at)) l ≡ m
+      → a-put a b l″ ≡ placed (a-pen (pen .base) (pen .parent) (r .word)) (follow (flow base-mode depth-limit depth-limit) s (from (r .at))) l′
+      → (length l″ ≡ k) × Ready s l″ (a-pen (pen .base) (pen .parent) b) (times (r .rest - 1) (follow (flow base-mode depth-limit depth-limit)) s (from a))
+      × (placed (a-pen (pen .base) (pen .parent) b) (times (r .rest - 1) (follow (flow base-mode depth-limit depth-limit)) s (from a)) l″ ≡ m)
   flat-turn z k m e = (
     placing.put-kept (a-pen (pen .base) (pen .parent) (r .word)) _ l′ e ∙ records.flat-length h ∙ k,
-    placing.ready-next (flow depth-limit depth-limit) (r .rest) s l′ (r .at) (pen .base) (pen .parent) (r .word) e (h .ready) (omega arith),
-    placing.put-turn (flow depth-limit depth-limit) (r .rest) s l′ (r .at) (pen .base) (pen .parent) (r .word) e (h .ready) (omega arith) (h .same) ∙ m,
+    placing.ready-next (flow base-mode depth-limit depth-limit) (r .rest) s l′ (r .at) (pen .base) (pen .parent) (r .word) e (h .ready) (omega arith),
+    placing.put-turn (flow base-mode depth-limit depth-limit) (r .rest) s l′ (r .at) (pen .base) (pen .parent) (r .word) e (h .ready) (omega arith) (h .same) ∙ m,
   )
 
 -- ---- an aggregation among them: its own descriptor was written
-module _ (s l : List ℕ) (at : ℕ) (pen : Pen) (k : be4 s at ≡ 1016) (g : Ready s l pen (follow (flow depth-limit depth-limit) s (from at))) {a b : ℕ} {l′ : List ℕ} (e : a-put a b l′ ≡ framed-at 2 1 s at pen l) where
+module _ (s l : List ℕ) (at : ℕ) (pen : Pen) (k : be4 s at ≡ 1016) (g : Ready s l pen (follow (flow base-mode depth-limit depth-limit) s (from at))) {a b : ℕ} {l′ : List ℕ} (e : a-put a b l′ ≡ framed-at 2 1 s at pen l) where
   pub aggregation-kept : length l′ ≡ length l
   aggregation-kept = records.record-kept 8 s l at pen g 1 refl e (sym k)
 
-  pub aggregation-inner : Ready s l′ (held-by (pen .base) (pen .word)) (follow (opened (flows (pdu 1 (flow depth-limit (depth-limit - 1)))) 1016) s (from (at + 8)))
+  pub aggregation-inner : Ready s l′ (held-by (pen .base) (pen .word)) (follow (opened (flows base-mode (pdu 1 (flow base-mode depth-limit (depth-limit - 1)))) 1016) s (from (at + 8)))
   aggregation-inner = records.record-inner 8 s l at pen g 1 refl e (sym k) refl
 
-  pub aggregation-placed : {m : ℕ} {l″ : List ℕ} → filled m l″ ≡ fills (held-by (pen .base) (pen .word)) (follow (opened (flows (pdu 1 (flow depth-limit (depth-limit - 1)))) 1016) s (from (at + 8))) l′
-      → a-put a m l″ ≡ placed pen (follow (flow depth-limit depth-limit) s (from at)) l
+  pub aggregation-placed : {m : ℕ} {l″ : List ℕ} → filled m l″ ≡ fills (held-by (pen .base) (pen .word)) (follow (opened (flows base-mode (pdu 1 (flow base-mode depth-limit (depth-limit - 1)))) 1016) s (from (at + 8))) l′
+      → a-put a m l″ ≡ placed pen (follow (flow base-mode depth-limit depth-limit) s (from at)) l
   aggregation-placed j = records.record-placed 8 s l at pen g 1 refl e (sym k) refl j
 
 pub ruleset held-records = (records.record-here, records.record-in, records.record-start, aggregation-kept, aggregation-inner, aggregation-placed, needs)
@@ -141,12 +141,12 @@ pub ruleset held-records = (records.record-here, records.record-in, records.reco
 pub ruleset flat = (records.flat-length, flat-done, flat-next, flat-less, flat-turn, placed-fills, needs)
 
 -- ---- a sample: its own descriptor was written, and what it holds has it for its parent
-module _ (s l : List ℕ) (at : ℕ) (pen : Pen) (g : Ready s l pen (follow (sample depth-limit) s (from at))) {a b : ℕ} {l′ : List ℕ} (e : a-put a b l′ ≡ framed-at 1 0 s at pen l) {f me : ℕ} (u : f ≡ be4 s at) (v : me ≡ index pen) where
-  pub sample-inner : Ready s l′ (a-pen (pen .base) me b) (follow (opened (samples depth-limit) f) s (from (at + 8)))
-  sample-inner = rw (v, placing.own-word 1 0 (opened (samples depth-limit)) s l at pen g 0 e) (placing.frame-inner 1 0 (opened (samples depth-limit)) s l at pen g 0 e u)
+module _ (s l : List ℕ) (at : ℕ) (pen : Pen) (g : Ready s l pen (follow (sample base-mode depth-limit) s (from at))) {a b : ℕ} {l′ : List ℕ} (e : a-put a b l′ ≡ framed-at 1 0 s at pen l) {f me : ℕ} (u : f ≡ be4 s at) (v : me ≡ index pen) where
+  pub sample-inner : Ready s l′ (a-pen (pen .base) me b) (follow (opened (samples base-mode depth-limit) f) s (from (at + 8)))
+  sample-inner = rw (v, placing.own-word 1 0 (opened (samples base-mode depth-limit)) s l at pen g 0 e) (placing.frame-inner 1 0 (opened (samples base-mode depth-limit)) s l at pen g 0 e u)
 
-  pub sample-placed : {m : ℕ} {l″ : List ℕ} → filled m l″ ≡ fills (a-pen (pen .base) me b) (follow (opened (samples depth-limit) f) s (from (at + 8))) l′ → a-put a m l″ ≡ placed pen (follow (sample depth-limit) s (from at)) l
-  sample-placed j = placing.frame-placed 1 0 (opened (samples depth-limit)) s l at pen g 0 e u refl (rw (v, placing.own-word 1 0 (opened (samples depth-limit)) s l at pen g 0 e) at j)
+  pub sample-placed : {m : ℕ} {l″ : List ℕ} → filled m l″ ≡ fills (a-pen (pen .base) me b) (follow (opened (samples base-mode depth-limit) f) s (from (at + 8))) l′ → a-put a m l″ ≡ placed pen (follow (sample base-mode depth-limit) s (from at)) l
+  sample-placed j = placing.frame-placed 1 0 (opened (samples base-mode depth-limit)) s l at pen g 0 e u refl (rw (v, placing.own-word 1 0 (opened (samples base-mode depth-limit)) s l at pen g 0 e) at j)
 
 pub ruleset writing = (
   placing.kept-on,

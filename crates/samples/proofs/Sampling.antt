@@ -12,7 +12,7 @@ use Rattle.reading.specs.Sizes.{depth-limit}
 use Rattle.reading.specs.Script.{Value, nothing, word, Script, give, repeat}
 use Rattle.reading.specs.Cursor.{Out, got, times, follow}
 use Rattle.reading.specs.Bytes.{be4}
-use Rattle.reading.specs.Layout.{Field, plain, fields, words, widths, total, fixed-rows, counters, last-number, opened, framed, flow, counter, samples, sample}
+use Rattle.reading.specs.Layout.{Mode, Field, plain, fields, words, widths, total, fixed-rows, counters, last-number, opened, framed, flow, counter, samples, sample}
 use Rattle.reading.proofs.Fields.{fields-out}
 use Rattle.reading.proofs.Words.{numbers, last-word}
 use Rattle.reading.proofs.Counts.{counted, counted-stop, counted-none, resumed, frame-at, frame-stop, frame-held, fields-stop, each-held}
@@ -43,8 +43,8 @@ use Rattle.samples.specs.Held.{counted-by-last, held, words-of, Is-kind,
 pub counter-thrift : Thrift counter
 counter-thrift = record { is = thrifty-counter }
 
-pub sample-thrift : (limit : ℕ) → Thrift (sample limit)
-sample-thrift limit = record { is = thrifty-sample limit }
+pub sample-thrift : (mode : Mode) (limit : ℕ) → Thrift (sample mode limit)
+sample-thrift mode limit = record { is = thrifty-sample mode limit }
 
 -- ---- a frame of any kind
 module _ (kind depth : ℕ) (body : ℕ → Script) (s : List ℕ) (c : Cursor) (k : ℕ) {r : Frame} (e : frame-out r ≡ frame-at s (place c)) where
@@ -160,44 +160,44 @@ flows-eight q e = rw e at (q .eight)
 pub eight-last : {s : List ℕ} {p : Passed} {at : ℕ} → There 8 s p at → Has-last s p at 28
 eight-last t = record { fits = λ w. omega (arith, t .fits w) }
 
-module _ (f : ℕ) (s : List ℕ) (c : Cursor) (k : ℕ) where
+module _ (mode : Mode) (f : ℕ) (s : List ℕ) (c : Cursor) (k : ℕ) where
   each : {vs : List Value} {p : Passed} (body : Script) (l : List Field) → Then l s (passed.Got c) p vs → rest-of body s p (last-number vs) k ≡ counted k (follow (fields l (λ us. repeat (last-number us) body (λ a. give a))) s (place c))
   unfolding rest-of
   each body l (goes e i) = sym (each-held l s (place c) k body e)
   each body l (halts e) = fields-stop l s (place c) k _ e
 
-  by-last : (n : ℕ) (body : Script) (at : ℕ) {p : Passed} {o : Out ℕ} → opened (samples depth-limit) f ≡ counted-by-last n body → 1 ≤ n → Then (words n) s (passed.Got c) p (numbers n s at) → o ≡ rest-of body s p (be4 s (at + (4 * n - 4))) k
-      → o ≡ counted k (follow (opened (samples depth-limit) f) s (place c))
+  by-last : (n : ℕ) (body : Script) (at : ℕ) {p : Passed} {o : Out ℕ} → opened (samples mode depth-limit) f ≡ counted-by-last n body → 1 ≤ n → Then (words n) s (passed.Got c) p (numbers n s at) → o ≡ rest-of body s p (be4 s (at + (4 * n - 4))) k
+      → o ≡ counted k (follow (opened (samples mode depth-limit) f) s (place c))
   by-last n body at {p} r h t q =
       q ∙ ap (λ (m : ℕ). rest-of body s p m k) (sym (last-of n s at h)) ∙ each body (words n) t ∙ ap (λ (x : Script). counted k (follow x s (place c))) (sym r)
 
   module _ {r : SampleKind} (q : Is-kind r f) where
-    pub flows-arm : {n : ℕ} (at : ℕ) {v p : Passed} {o : Out ℕ} → r ≡ kind.Flows n → Ends (words (n - 8)) s (passed.Got c) v → Then (words 8) s v p (numbers 8 s at) → o ≡ rest-of (flow depth-limit depth-limit) s p (be4 s (at + 28)) k
-        → o ≡ counted k (follow (opened (samples depth-limit) f) s (place c))
+    pub flows-arm : {n : ℕ} (at : ℕ) {v p : Passed} {o : Out ℕ} → r ≡ kind.Flows n → Ends (words (n - 8)) s (passed.Got c) v → Then (words 8) s v p (numbers 8 s at) → o ≡ rest-of (flow mode depth-limit depth-limit) s p (be4 s (at + 28)) k
+        → o ≡ counted k (follow (opened (samples mode depth-limit) f) s (place c))
     flows-arm {n} at {p = p} e (ends {vs} t) u i =
         let y : n - 8 + 8 ≡ n = omega (arith, flows-eight q e) in
         let h : words (n - 8) ++ words 8 ≡ words n = eight-more (n - 8) ∙ ap words y in
         let z : last-number (vs ++ numbers 8 s at) ≡ be4 s (at + 28) = last-behind vs (numbers 8 s at) (omega arith) ∙ last-of 8 s at (omega arith) in
-        let w = each (flow depth-limit depth-limit) (words (n - 8) ++ words 8) (both t u) in
-        i ∙ ap (λ (m : ℕ). rest-of (flow depth-limit depth-limit) s p m k) (sym z) ∙ w ∙ ap (λ (l : List Field). counted k (follow (fields l (λ us. repeat (last-number us) (flow depth-limit depth-limit) (λ a. give a))) s (place c))) h
-        ∙ ap (λ (x : Script). counted k (follow x s (place c))) (sym (q .is ∙ ap held e))
+        let w = each (flow mode depth-limit depth-limit) (words (n - 8) ++ words 8) (both t u) in
+        i ∙ ap (λ (m : ℕ). rest-of (flow mode depth-limit depth-limit) s p m k) (sym z) ∙ w ∙ ap (λ (l : List Field). counted k (follow (fields l (λ us. repeat (last-number us) (flow mode depth-limit depth-limit) (λ a. give a))) s (place c))) h
+        ∙ ap (λ (x : Script). counted k (follow x s (place c))) (sym (q .is mode ∙ ap (held mode) e))
 
-    pub counters-arm : {n : ℕ} (at : ℕ) {p : Passed} {o : Out ℕ} → r ≡ kind.Counters n → Then (words n) s (passed.Got c) p (numbers n s at) → o ≡ rest-of counter s p (be4 s (at + (4 * n - 4))) k → o ≡ counted k (follow (opened (samples depth-limit) f) s (place c))
-    counters-arm {n} at e t i = by-last n counter at (q .is ∙ ap held e) (omega (arith, q .some, ap words-of e)) t i
+    pub counters-arm : {n : ℕ} (at : ℕ) {p : Passed} {o : Out ℕ} → r ≡ kind.Counters n → Then (words n) s (passed.Got c) p (numbers n s at) → o ≡ rest-of counter s p (be4 s (at + (4 * n - 4))) k → o ≡ counted k (follow (opened (samples mode depth-limit) f) s (place c))
+    counters-arm {n} at e t i = by-last n counter at (q .is mode ∙ ap (held mode) e) (omega (arith, q .some, ap words-of e)) t i
 
-    pub raw-arm : r ≡ kind.Raw → got k (place c) ≡ counted k (follow (opened (samples depth-limit) f) s (place c))
+    pub raw-arm : r ≡ kind.Raw → got k (place c) ≡ counted k (follow (opened (samples mode depth-limit) f) s (place c))
     unfolding follow
-    raw-arm e = counted-none k (place c) (ap (λ (x : Script). follow x s (place c)) (sym (q .is ∙ ap held e)))
+    raw-arm e = counted-none k (place c) (ap (λ (x : Script). follow x s (place c)) (sym (q .is mode ∙ ap (held mode) e)))
 
 -- ---- the flow records behind its words: those passed ahead, and the others
-module _ (s : List ℕ) (k : ℕ) {q : Passed} {d : Cursor} (e : q ≡ passed.Got d) {n m : ℕ} (z : n ≡ m) {a : Ahead} (h : Ahead-of s d n k a) where
-  pub ahead-all : a .rest ≡ 0 → got (a .count) (place (a .cursor)) ≡ rest-of (flow depth-limit depth-limit) s q m k
+module _ (mode : Mode) (s : List ℕ) (k : ℕ) {q : Passed} {d : Cursor} (e : q ≡ passed.Got d) {n m : ℕ} (z : n ≡ m) {a : Ahead} (h : Ahead-of s d n k a) where
+  pub ahead-all : a .rest ≡ 0 → got (a .count) (place (a .cursor)) ≡ rest-of (flow mode depth-limit depth-limit) s q m k
   unfolding rest-of
-  ahead-all y = rw (e, ← z) (scan-done (flow depth-limit depth-limit) s (a .cursor) (a .count) (a .rest) (h .same) (omega arith))
+  ahead-all y = rw (e, ← z) (scan-done (flow mode depth-limit depth-limit) s (a .cursor) (a .count) (a .rest) (h .same mode) (omega arith))
 
-  pub ahead-rest : {o : Out ℕ} → o ≡ counted (a .count) (times (a .rest) (follow (flow depth-limit depth-limit)) s (place (a .cursor))) → o ≡ rest-of (flow depth-limit depth-limit) s q m k
+  pub ahead-rest : {o : Out ℕ} → o ≡ counted (a .count) (times (a .rest) (follow (flow mode depth-limit depth-limit)) s (place (a .cursor))) → o ≡ rest-of (flow mode depth-limit depth-limit) s q m k
   unfolding rest-of
-  ahead-rest i = rw (e, ← z) (i ∙ h .same)
+  ahead-rest i = rw (e, ← z) (i ∙ h .same mode)
 
 pub ruleset sampling = (
   scan-inside,

@@ -6,7 +6,7 @@ use lib.ListN.{length}
 use Rattle.reading.specs.Sizes.{depth-limit}
 use Rattle.reading.specs.Script.{nothing, Script, give, repeat}
 use Rattle.reading.specs.Cursor.{Out, times, follow}
-use Rattle.reading.specs.Layout.{fields, words, last-number, opened, flow, counter, samples}
+use Rattle.reading.specs.Layout.{Mode, fields, words, last-number, opened, flow, counter, samples}
 use Rattle.reading.proofs.Counts.{counted}
 use Rattle.xdr.specs.declared.Cursor.{Cursor}
 use Rattle.xdr.specs.declared.Outcome.{Outcome}
@@ -23,10 +23,10 @@ use Rattle.samples.specs.declared.kinds.SampleKind.the-variants as kind
 abbrev pub counted-by-last : ℕ → Script → Script
 counted-by-last n body = fields (words n) (λ us. repeat (last-number us) body (λ a. give a))
 
-abbrev pub held : SampleKind → Script
-held (kind.Flows n) = counted-by-last n (flow depth-limit depth-limit)
-held (kind.Counters n) = counted-by-last n counter
-held kind.Raw = give nothing
+abbrev pub held : Mode → SampleKind → Script
+held mode (kind.Flows n) = counted-by-last n (flow mode depth-limit depth-limit)
+held mode (kind.Counters n) = counted-by-last n counter
+held mode kind.Raw = give nothing
 
 abbrev pub words-of : SampleKind → ℕ
 words-of (kind.Flows n) = n
@@ -40,7 +40,7 @@ eight-of (kind.Counters n) = 0
 eight-of kind.Raw = 0
 
 pub record Is-kind (r : SampleKind) (f : ℕ) : Type 0 where
-  pub is : opened (samples depth-limit) f ≡ held r
+  pub is : (mode : Mode) → opened (samples mode depth-limit) f ≡ held mode r
   pub some : 1 ≤ words-of r
   pub few : words-of r ≤ 11
   pub eight : eight-of r ≤ words-of r

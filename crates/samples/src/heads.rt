@@ -1,7 +1,7 @@
 // Made by layouts/make from layouts/table.
 // Heads: the fields of a datagram or of a sample, before what it holds.
 ghost use mathlib.Core.Path.{_≡_};
-ghost use Rattle.reading.specs.Layout.{words};
+ghost use Rattle.reading.specs.Layout.{memo, words};
 ghost use Rattle.reading.specs.Values.{zeros};
 ghost use Rattle.reading.specs.Answer.{layout-of};
 ghost use Rattle.xdr.specs.Shown.{Answers};
@@ -32,7 +32,7 @@ pub struct FlowSample {
 impl FlowSample {
     pub fn parse(p: Passed, s: &[u8]) -> FlowSample
         requires { ⌜ Within (now s) p ⌝ }
-        ensures { λ r. ⌜ Answers (layout-of 1 1) (now (s .entry)) p (r .outcome) (flow-sample r) ⌝ }
+        ensures { λ r. ⌜ Answers (layout-of memo 1 1) (now (s .entry)) p (r .outcome) (flow-sample r) ⌝ }
     {
         let row = field::words(p, s, 8);
         let passed = row.passed;
@@ -78,7 +78,7 @@ pub struct CountersSample {
 impl CountersSample {
     pub fn parse(p: Passed, s: &[u8]) -> CountersSample
         requires { ⌜ Within (now s) p ⌝ }
-        ensures { λ r. ⌜ Answers (layout-of 1 2) (now (s .entry)) p (r .outcome) (counters-sample r) ⌝ }
+        ensures { λ r. ⌜ Answers (layout-of memo 1 2) (now (s .entry)) p (r .outcome) (counters-sample r) ⌝ }
     {
         let row = field::words(p, s, 3);
         let passed = row.passed;
@@ -144,7 +144,7 @@ impl FlowSampleExpanded {
 
     pub fn parse(p: Passed, s: &[u8]) -> FlowSampleExpanded
         requires { ⌜ Within (now s) p ⌝ }
-        ensures { λ r. ⌜ Answers (layout-of 1 3) (now (s .entry)) p (r .outcome) (flow-sample-expanded r) ⌝ }
+        ensures { λ r. ⌜ Answers (layout-of memo 1 3) (now (s .entry)) p (r .outcome) (flow-sample-expanded r) ⌝ }
     {
         let row = field::words(p, s, 11);
         let passed = row.passed;
@@ -189,7 +189,7 @@ pub struct CountersSampleExpanded {
 impl CountersSampleExpanded {
     pub fn parse(p: Passed, s: &[u8]) -> CountersSampleExpanded
         requires { ⌜ Within (now s) p ⌝ }
-        ensures { λ r. ⌜ Answers (layout-of 1 4) (now (s .entry)) p (r .outcome) (counters-sample-expanded r) ⌝ }
+        ensures { λ r. ⌜ Answers (layout-of memo 1 4) (now (s .entry)) p (r .outcome) (counters-sample-expanded r) ⌝ }
     {
         let row = field::words(p, s, 4);
         let passed = row.passed;
@@ -235,7 +235,7 @@ pub struct DiscardedPacket {
 impl DiscardedPacket {
     pub fn parse(p: Passed, s: &[u8]) -> DiscardedPacket
         requires { ⌜ Within (now s) p ⌝ }
-        ensures { λ r. ⌜ Answers (layout-of 1 5) (now (s .entry)) p (r .outcome) (discarded-packet r) ⌝ }
+        ensures { λ r. ⌜ Answers (layout-of memo 1 5) (now (s .entry)) p (r .outcome) (discarded-packet r) ⌝ }
     {
         let row = field::words(p, s, 8);
         let passed = row.passed;

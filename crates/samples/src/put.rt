@@ -5,7 +5,7 @@ ghost use lib.ListN.{length};
 ghost use Rattle.reading.specs.Sizes.{depth-limit};
 ghost use Rattle.reading.specs.Bytes.{be4};
 ghost use Rattle.reading.specs.Cursor.{times, follow};
-ghost use Rattle.reading.specs.Layout.{opened, flow, counter, samples, sample};
+ghost use Rattle.reading.specs.Layout.{base as base-mode, opened, flow, counter, samples, sample};
 ghost use Rattle.reading.specs.Answer.{from};
 ghost use Rattle.store.specs.Written.{Ready, written, placed, filled, fills};
 use crate::kinds::SampleKind;
@@ -58,8 +58,8 @@ fn put_counter_records(s: &[u8], at: usize, n: u32, store: &mut [u32], pen: Pen)
 // An aggregation among the flow records of a sample: its own descriptor, and its PDUs behind that.
 fn put_aggregation(s: &[u8], at: usize, store: &mut [u32], pen: Pen) -> Written
     requires { ⌜ be4 (now s) at ≡ 1016 ⌝ }
-    requires { ⌜ Ready (now s) (now store) pen (follow (flow depth-limit depth-limit) (now s) (from at)) ⌝ }
-    ensures { λ r. ⌜ written r (now (store .exit)) ≡ placed pen (follow (flow depth-limit depth-limit) (now (s .entry)) (from at)) (now (store .entry)) ⌝ }
+    requires { ⌜ Ready (now s) (now store) pen (follow (flow base-mode depth-limit depth-limit) (now s) (from at)) ⌝ }
+    ensures { λ r. ⌜ written r (now (store .exit)) ≡ placed pen (follow (flow base-mode depth-limit depth-limit) (now (s .entry)) (from at)) (now (store .entry)) ⌝ }
 {
     let base = pen.base;
     let word = pen.word;
@@ -73,8 +73,8 @@ fn put_aggregation(s: &[u8], at: usize, store: &mut [u32], pen: Pen) -> Written
 
 // n flow records of a sample: flat ones in one loop, then an aggregation, where there is one, and so on.
 fn put_sample_flows(s: &[u8], at: usize, n: u32, store: &mut [u32], pen: Pen) -> usize
-    requires { ⌜ Ready (now s) (now store) pen (times n (follow (flow depth-limit depth-limit)) (now s) (from at)) ⌝ }
-    ensures { λ r. ⌜ filled r (now (store .exit)) ≡ fills pen (times n (follow (flow depth-limit depth-limit)) (now (s .entry)) (from at)) (now (store .entry)) ⌝ }
+    requires { ⌜ Ready (now s) (now store) pen (times n (follow (flow base-mode depth-limit depth-limit)) (now s) (from at)) ⌝ }
+    ensures { λ r. ⌜ filled r (now (store .exit)) ≡ fills pen (times n (follow (flow base-mode depth-limit depth-limit)) (now (s .entry)) (from at)) (now (store .entry)) ⌝ }
 {
     let base = pen.base;
     let parent = pen.parent;
@@ -107,8 +107,8 @@ fn put_sample_flows(s: &[u8], at: usize, n: u32, store: &mut [u32], pen: Pen) ->
 // What a sample of this format holds.
 fn put_sample_data(s: &[u8], at: usize, format: u32, store: &mut [u32], pen: Pen) -> usize
     requires { ⌜ at ≤ length (now s) ⌝ }
-    requires { ⌜ Ready (now s) (now store) pen (follow (opened (samples depth-limit) format) (now s) (from at)) ⌝ }
-    ensures { λ r. ⌜ filled r (now (store .exit)) ≡ fills pen (follow (opened (samples depth-limit) format) (now (s .entry)) (from at)) (now (store .entry)) ⌝ }
+    requires { ⌜ Ready (now s) (now store) pen (follow (opened (samples base-mode depth-limit) format) (now s) (from at)) ⌝ }
+    ensures { λ r. ⌜ filled r (now (store .exit)) ≡ fills pen (follow (opened (samples base-mode depth-limit) format) (now (s .entry)) (from at)) (now (store .entry)) ⌝ }
 {
     match kind_of(format) {
         SampleKind::Flows(k) => {
@@ -128,8 +128,8 @@ fn put_sample_data(s: &[u8], at: usize, format: u32, store: &mut [u32], pen: Pen
 
 // One sample: its own descriptor, and what it holds behind that.
 fn put_sample(s: &[u8], at: usize, store: &mut [u32], pen: Pen) -> Written
-    requires { ⌜ Ready (now s) (now store) pen (follow (sample depth-limit) (now s) (from at)) ⌝ }
-    ensures { λ r. ⌜ written r (now (store .exit)) ≡ placed pen (follow (sample depth-limit) (now (s .entry)) (from at)) (now (store .entry)) ⌝ }
+    requires { ⌜ Ready (now s) (now store) pen (follow (sample base-mode depth-limit) (now s) (from at)) ⌝ }
+    ensures { λ r. ⌜ written r (now (store .exit)) ≡ placed pen (follow (sample base-mode depth-limit) (now (s .entry)) (from at)) (now (store .entry)) ⌝ }
 {
     let format = load::be32(s, at);
     let base = pen.base;
@@ -154,8 +154,8 @@ fn put_sample(s: &[u8], at: usize, store: &mut [u32], pen: Pen) -> Written
 
 // n samples in a row.
 pub fn put_samples(s: &[u8], at: usize, n: u32, store: &mut [u32], pen: Pen) -> Written
-    requires { ⌜ Ready (now s) (now store) pen (times n (follow (sample depth-limit)) (now s) (from at)) ⌝ }
-    ensures { λ r. ⌜ written r (now (store .exit)) ≡ placed pen (times n (follow (sample depth-limit)) (now (s .entry)) (from at)) (now (store .entry)) ⌝ }
+    requires { ⌜ Ready (now s) (now store) pen (times n (follow (sample base-mode depth-limit)) (now s) (from at)) ⌝ }
+    ensures { λ r. ⌜ written r (now (store .exit)) ≡ placed pen (times n (follow (sample base-mode depth-limit)) (now (s .entry)) (from at)) (now (store .entry)) ⌝ }
 {
     let base = pen.base;
     let parent = pen.parent;

@@ -8,7 +8,7 @@ ghost use Rattle.reading.specs.Layout.{words, opened, fixed-rows, flow, counter
 ghost use Rattle.reading.proofs.Counts.{counted, resumed};
 ghost use Rattle.xdr.specs.Shown.{place, Inside};
 ghost use Rattle.layout.specs.Scanned.{Scan, scanned-out};
-ghost use Rattle.layout.specs.Chain.{Ends};
+ghost use Rattle.layout.specs.Chain.{Ends, mode-of};
 ghost use Rattle.samples.specs.Held.{Counted, Has-last, rest-of};
 use crate::kinds::SampleKind;
 use crate::kinds::kind_of;
@@ -18,6 +18,7 @@ use flows::MAX_DEPTH;
 use flows::scan;
 use flows::scan_ahead;
 use layout::field;
+use layout::field::Mode;
 use layout::field::WordsAt;
 use layout::frames::Frame;
 use layout::frames::Scanned;
@@ -104,10 +105,10 @@ fn counter_records(s: &[u8], c: Cursor, n: u32, count: usize) -> Scanned
 }
 
 // The flow records behind a sample's row, where that was read; its word at `last` counts them.
-fn flows_behind(s: &[u8], row: WordsAt, last: usize, count: usize) -> Scanned
+fn flows_behind(s: &[u8], row: WordsAt, last: usize, mode: Mode, count: usize) -> Scanned
     requires { ⌜ Counted (now s) (row .passed) count ⌝ }
     requires { ⌜ Has-last (now s) (row .passed) (row .at) last ⌝ }
-    ensures { λ r. ⌜ scanned-out r ≡ rest-of (flow depth-limit depth-limit) (now (s .entry)) (row .passed) (be4 (now (s .entry)) (row .at + last)) count ⌝ }
+    ensures { λ r. ⌜ scanned-out r ≡ rest-of (flow (mode-of mode) depth-limit depth-limit) (now (s .entry)) (row .passed) (be4 (now (s .entry)) (row .at + last)) count ⌝ }
 {
     let passed = row.passed;
     match passed {
@@ -120,7 +121,7 @@ fn flows_behind(s: &[u8], row: WordsAt, last: usize, count: usize) -> Scanned
                 return Scanned::Got(cur, a.count);
             }
             // Lent anew, so that its two words go to the stack only where there is a call.
-            scan::flow_records(&*s, cur, a.rest, MAX_DEPTH, a.count)
+            scan::flow_records(&*s, cur, a.rest, MAX_DEPTH, mode, a.count)
         }
     }
 }
@@ -156,14 +157,14 @@ fn before_eight(c: Cursor, s: &[u8], n: u32) -> Passed
 }
 
 // What a sample of this format holds.
-fn sample_data(s: &[u8], c: Cursor, format: u32, count: usize) -> Scanned
+fn sample_data(s: &[u8], c: Cursor, format: u32, mode: Mode, count: usize) -> Scanned
     requires { ⌜ Scan (now s) c count ⌝ }
-    ensures { λ r. ⌜ scanned-out r ≡ counted count (follow (opened (samples depth-limit) format) (now (s .entry)) (place c)) ⌝ }
+    ensures { λ r. ⌜ scanned-out r ≡ counted count (follow (opened (samples (mode-of mode) depth-limit) format) (now (s .entry)) (place c)) ⌝ }
 {
     match kind_of(format) {
         SampleKind::Flows(n) => {
             let row = field::words(before_eight(c, s, n), s, 8);
-            flows_behind(s, row, 28, count)
+            flows_behind(s, row, 28, mode, count)
         }
         SampleKind::Counters(n) => {
             let row = field::words(Passed::Got(c), s, n);
@@ -174,9 +175,9 @@ fn sample_data(s: &[u8], c: Cursor, format: u32, count: usize) -> Scanned
 }
 
 // One sample.
-fn one_sample(s: &[u8], c: Cursor, count: usize) -> Scanned
+fn one_sample(s: &[u8], c: Cursor, mode: Mode, count: usize) -> Scanned
     requires { ⌜ Scan (now s) c count ⌝ }
-    ensures { λ r. ⌜ scanned-out r ≡ counted count (follow (sample depth-limit) (now (s .entry)) (place c)) ⌝ }
+    ensures { λ r. ⌜ scanned-out r ≡ counted count (follow (sample (mode-of mode) depth-limit) (now (s .entry)) (place c)) ⌝ }
 {
     match Frame::parse(c, s) {
         Frame::Stop(r) => Scanned::Stop(r),
@@ -187,21 +188,21 @@ fn one_sample(s: &[u8], c: Cursor, count: usize) -> Scanned
                 at: start,
                 steps: e.steps,
             };
-            resumed(sample_data(&s[..end], inner, format, count + 1), e.at)
+            resumed(sample_data(&s[..end], inner, format, mode, count + 1), e.at)
         }
     }
 }
 
 // n samples in a row.
-pub fn samples(s: &[u8], c: Cursor, n: u32, count: usize) -> Scanned
+pub fn samples(s: &[u8], c: Cursor, n: u32, mode: Mode, count: usize) -> Scanned
     requires { ⌜ Scan (now s) c count ⌝ }
-    ensures { λ r. ⌜ scanned-out r ≡ counted count (times n (follow (sample depth-limit)) (now (s .entry)) (place c)) ⌝ }
+    ensures { λ r. ⌜ scanned-out r ≡ counted count (times n (follow (sample (mode-of mode) depth-limit)) (now (s .entry)) (place c)) ⌝ }
 {
     let mut cur = c;
     let mut found = count;
     let mut rest = n;
     while 0 < rest {
-        match one_sample(s, cur, found) {
+        match one_sample(s, cur, mode, found) {
             Scanned::Stop(r) => {
                 return Scanned::Stop(r);
             }

@@ -1,4 +1,5 @@
-//! One input: the library's answers against the crate's and against the reading by the rules (docs/RULES.md).
+//! One input in one mode: the library's answers against the reading by the rules (docs/RULES.md), and in the base mode against the crate's,
+//! which reads as that does.
 
 use crate::fault::Library;
 use crate::paper::{self, Cursor, Opened, Reading};
@@ -29,22 +30,22 @@ pub fn theirs(data: &[u8], run: bool) -> Theirs {
 }
 
 /// The reading by the rules.
-pub fn reading_of(data: &[u8], run: bool) -> Reading {
+pub fn reading_of(data: &[u8], run: bool, mode: Mode) -> Reading {
     if run {
-        paper::decode_run(data)
+        paper::decode_run(data, mode)
     } else {
-        paper::decode(data)
+        paper::decode(data, mode)
     }
 }
 
-/// The input with a format word that the crate keeps raw for each record that only the crate opens, and its reading, whose answers
-/// must be as they were.
+/// The input with a format word that the crate keeps raw for each record that only the crate opens, and its reading in the base mode, whose
+/// answers must be as they were.
 pub fn brought_inside(data: &[u8], reading: &Reading, run: bool) -> Result<(Vec<u8>, Reading), Difference> {
     let mut inside = data.to_vec();
     for Opened { at, .. } in &reading.opened {
         inside[*at..*at + 4].copy_from_slice(&KEPT_RAW.to_be_bytes());
     }
-    let again = reading_of(&inside, run);
+    let again = reading_of(&inside, run, Mode::Base);
     let answer = |of: &Reading| (of.code, of.at, of.steps);
     same("brought inside: answer", &answer(&again), &answer(reading))?;
     let but_format = |of: &Reading| of.store.iter().map(|[kind, _, rest @ ..]| (*kind, *rest)).collect::<Vec<_>>();
@@ -74,17 +75,18 @@ pub struct Judge {
 }
 
 impl Judge {
-    pub fn new(fault: u32) -> Self {
-        Judge { tally: Tally::default(), library: Library { fault }, found: Vec::new(), indexed: false }
+    pub fn new(fault: u32, mode: Mode) -> Self {
+        Judge { tally: Tally::default(), library: Library { fault, mode }, found: Vec::new(), indexed: false }
     }
 
-    /// Compares one input, as a datagram and as a run.
-    pub fn case(&mut self, data: &[u8]) {
+    /// Compares one input, as a datagram and as a run; answers how it is read as a datagram.
+    pub fn case(&mut self, data: &[u8]) -> Reading {
+        let mode = self.library.mode;
         self.tally.cases += 1;
         self.tally.bytes += data.len() as u64;
-        let (one, run) = (paper::decode(data), paper::decode_run(data));
+        let (one, run) = (paper::decode(data, mode), paper::decode_run(data, mode));
         reach::count(&mut self.tally, &one, &run);
-        reach::see(&mut self.tally, data, &one);
+        reach::see(&mut self.tally, data, &one, mode);
         self.judge(data, &one, false);
         self.judge(data, &run, true);
         let parts = (0..3).try_for_each(|pick| self.parts(data, one.steps * 3 + pick));
@@ -94,13 +96,17 @@ impl Judge {
         for found in std::mem::take(&mut self.found) {
             self.tally.note(found, data);
         }
+        one
     }
 
-    /// Asks both judges, whatever the first one finds.
+    /// Asks both judges, whatever the first one finds; in the memo's mode there is only the first.
     fn judge(&mut self, data: &[u8], reading: &Reading, run: bool) {
         let by_paper = self.answers(data, reading, run);
-        let by_crate = self.against(data, reading, &theirs(data, run), run);
-        self.found.extend([by_paper, by_crate].into_iter().filter_map(Result::err));
+        self.found.extend(by_paper.err());
+        if self.library.mode == Mode::Base {
+            let by_crate = self.against(data, reading, &theirs(data, run), run);
+            self.found.extend(by_crate.err());
+        }
     }
 
     /// The library with this much room, and whether the store is as it must be.
@@ -199,7 +205,7 @@ impl Judge {
         let layout = &LAYOUTS[row];
         let name = format_args!("fields of {}/{}", layout.kind, layout.format).to_string();
         let (outcome, values) = self.library.read(row, data, descriptor);
-        let (expected, held) = paper::fields(data, descriptor, layout);
+        let (expected, held) = paper::fields(data, descriptor, layout, self.library.mode);
         same(&format!("{name}: outcome"), &(outcome.code, outcome.at, outcome.steps), &expected)?;
         if expected.0 == 0 {
             same(&name, &values, &held)?;
@@ -303,7 +309,7 @@ impl Judge {
     fn made_shallow(&mut self, data: &[u8], reading: &Reading, run: bool) -> Checked {
         let mut shallow = data.to_vec();
         shallow[reading.at_limit..reading.at_limit + 4].copy_from_slice(&KEPT_RAW.to_be_bytes());
-        let again = reading_of(&shallow, run);
+        let again = reading_of(&shallow, run, Mode::Base);
         same("made shallow: no fault before", &(again.code != 0 && again.at < reading.at), &false)?;
         self.judge(&shallow, &again, run);
         Ok(())
@@ -401,12 +407,14 @@ impl Judge {
 
 /// What each of the three answers to an input, for people.
 pub fn show(data: &[u8], fault: u32) {
-    let library = Library { fault };
     let mut store = lent(data.len() / 4 * DESCRIPTOR_WORDS);
-    let (one, run) = (library.decode(data, &mut store).answer, library.decode_run(data, &mut store));
-    println!("library: {one:?}, as a run {run:?}");
     let answer = |of: Reading| format!("code {} at {}, steps {}, descriptors {}", of.code, of.at, of.steps, of.store.len());
-    println!("the rules: {}; as a run {}", answer(paper::decode(data)), answer(paper::decode_run(data)));
+    for mode in [Mode::Memo, Mode::Base] {
+        let library = Library { fault, mode };
+        let (one, run) = (library.decode(data, &mut store).answer, library.decode_run(data, &mut store));
+        println!("library, {mode}: {one:?}, as a run {run:?}");
+        println!("the rules, {mode}: {}; as a run {}", answer(paper::decode(data, mode)), answer(paper::decode_run(data, mode)));
+    }
     println!("crate: {:?}; as a run {:?}", parse_datagram(data), parse_datagrams(data).map(|all| all.len()));
 }
 

@@ -3,9 +3,9 @@
 //! other enterprises, where they stay raw.
 
 use crate::listed::{datagram, raw};
+use crate::modes::Both;
 use crate::random::Random;
 use crate::shape::*;
-use crate::tally::Tally;
 use crate::work;
 
 /// A record has at most so many bytes more than its layout.
@@ -62,7 +62,7 @@ fn extremes(random: &mut Random, layout: &Layout, sample: u32) -> Vec<Vec<u8>> {
     all
 }
 
-pub fn all(fault: u32) -> Tally {
+pub fn all(fault: u32) -> Both {
     let mut random = Random::of_case(1, 0);
     let mut inputs = Vec::new();
     for layout in LAYOUTS.iter().filter(|layout| layout.kind == COUNTER) {

@@ -1,5 +1,5 @@
-//! The library as the comparison calls it. With a fault's number, its answers are spoilt in one way, so that `oracle/faults` can see
-//! whether the comparison notices. 0 is no fault.
+//! The library as the comparison calls it, in one of the modes. With a fault's number, its answers are spoilt in one way, so that
+//! `oracle/faults` can see whether the comparison notices. 0 is no fault.
 
 use crate::library::{self, Answer, Decoded, Listed, Outcome, Segment, Span};
 use crate::paper;
@@ -7,7 +7,7 @@ use crate::shape::*;
 use crate::value::Value;
 
 /// What each fault does; the first is number 1. Those that begin with `pads` are for `--pads` to find: hardly any random input meets them.
-pub const FAULTS: [&str; 29] = [
+pub const FAULTS: [&str; 33] = [
     "code 2 is given four bytes too late",
     "an accepted datagram has a step too many",
     "the header's sequence number has its bytes turned round",
@@ -37,20 +37,34 @@ pub const FAULTS: [&str; 29] = [
     "a counter record of another enterprise is opened",
     "a u64 of a counter record is two steps",
     "a counter record with bytes left over is refused",
+    "the modes have changed places",
+    "a sampled Ethernet record's field reading is that of the other mode",
+    "a run in the memo's mode is that of the base mode",
+    "pads: the type of a sampled Ethernet record takes in the last byte of the pad before it",
 ];
 
 pub struct Library {
     pub fault: u32,
+    pub mode: Mode,
 }
 
 impl Library {
+    /// The mode of a call that these faults spoil.
+    fn mode_but_for(&self, faults: &[u32]) -> Mode {
+        if faults.contains(&self.fault) {
+            self.mode.other()
+        } else {
+            self.mode
+        }
+    }
+
     pub fn decode(&self, data: &[u8], store: &mut [u32]) -> Decoded {
-        let mut got = library::decode(data, store);
+        let mut got = library::decode(data, store, self.mode_but_for(&[30]));
         self.spoil_answer(&mut got.answer, store);
         if self.fault == 3 {
             got.sequence_number = got.sequence_number.swap_bytes();
         }
-        if self.fault == 22 && got.answer.code == 0 && has_rubbish_only(data) {
+        if self.fault == 22 && got.answer.code == 0 && has_rubbish_only(data, self.mode) {
             got.answer.steps += 1;
         }
         self.spoil_counters(data, &mut got.answer, store);
@@ -58,7 +72,8 @@ impl Library {
     }
 
     pub fn decode_run(&self, data: &[u8], store: &mut [u32]) -> Answer {
-        let mut got = library::decode_run(data, store);
+        let mode = if self.mode == Mode::Memo { self.mode_but_for(&[30, 32]) } else { self.mode_but_for(&[30]) };
+        let mut got = library::decode_run(data, store, mode);
         self.spoil_answer(&mut got, store);
         if self.fault == 10 && got.code == 0 && got.at < data.len() {
             got.code = 2;
@@ -70,7 +85,7 @@ impl Library {
     }
 
     pub fn read(&self, row: usize, data: &[u8], descriptor: &Descriptor) -> (Outcome, Vec<Value>) {
-        let (mut outcome, mut values) = library::read(row, data, descriptor);
+        let (mut outcome, mut values) = library::read(row, data, descriptor, self.mode_but_for(&[30, 31]));
         if self.fault == 21 && outcome.code == 7 {
             outcome.at += 1;
         }
@@ -83,6 +98,7 @@ impl Library {
         match (self.fault, LAYOUTS[row].kind, LAYOUTS[row].format) {
             (24, COUNTER, 1) => values.swap(5, 12),
             (25, COUNTER, _) => values.iter_mut().for_each(lose_upper_half),
+            (33, FLOW, ETHERNET) if outcome.code == 0 && self.mode == Mode::Memo => take_in_pad(data, outcome.at, &mut values),
             _ => {}
         }
         (outcome, values)
@@ -145,7 +161,7 @@ impl Library {
         // The layout that a record's number has in enterprise 0, whether that is its own, and how long it is.
         let mut rows = counters.filter_map(|words| Some((layout_of(COUNTER, words[1] & 0xfff)?, words[1] < 4096, words[3] as usize)));
         match (self.fault, answer.code) {
-            (26, 2) if is_cut_in_u64(data, answer.at) => answer.at += 4,
+            (26, 2) if is_cut_in_u64(data, self.mode, answer.at) => answer.at += 4,
             (27, 0) if rows.any(|(layout, own, length)| !own && length < layout.fixed_size()) => answer.code = 2,
             (28, 0) => answer.steps += rows.filter(|row| row.1).map(|row| longs(row.0)).sum::<usize>(),
             (29, 0) if rows.any(|(layout, own, length)| own && length > layout.fixed_size()) => answer.code = 2,
@@ -165,8 +181,8 @@ fn longs(layout: &Layout) -> usize {
 }
 
 /// Whether a datagram is refused at a u64 of a counter record of which a word is there.
-fn is_cut_in_u64(data: &[u8], at: usize) -> bool {
-    match paper::decode(data).within {
+fn is_cut_in_u64(data: &[u8], mode: Mode, at: usize) -> bool {
+    match paper::decode(data, mode).within {
         Some([COUNTER, _, start, length, ..]) => (start + length) as usize - at >= 4,
         _ => false,
     }
@@ -190,8 +206,8 @@ fn spoil_parents(store: &mut [u32], needed: usize) {
 }
 
 /// Whether there are ten pads or more in the datagram, and no zero in any.
-fn has_rubbish_only(data: &[u8]) -> bool {
-    let pads = paper::decode(data).pads;
+fn has_rubbish_only(data: &[u8], mode: Mode) -> bool {
+    let pads = paper::decode(data, mode).pads;
     pads.len() >= 10 && !pads.into_iter().any(|pad| data[pad].contains(&0))
 }
 
@@ -203,6 +219,13 @@ fn take_in_tail(data: &[u8], descriptor: &Descriptor, values: &mut [Value]) {
     // Where the comparison has changed a descriptor, its first byte too, the datagram does not end there.
     if let (Some(bytes), Some(Value::Word(last)), true) = (behind, values.last_mut(), first == start) {
         *last ^= u32::from(bytes[0]);
+    }
+}
+
+/// Spoils the type of a sampled Ethernet record, which ends at `end`, with the last byte of the pad before it.
+fn take_in_pad(data: &[u8], end: usize, values: &mut [Value]) {
+    if let Some(Value::Word(last)) = values.last_mut() {
+        *last ^= u32::from(data[end - 5]);
     }
 }
 

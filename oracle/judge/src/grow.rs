@@ -13,6 +13,8 @@ pub struct Plan {
     pub outside: bool,
     /// The depth that one record of the first flow sample is to reach.
     pub reach: u32,
+    /// The modes by whose layouts the records are made: each record by one of them.
+    pub modes: &'static [Mode],
 }
 
 pub struct Grower<'a> {
@@ -133,7 +135,11 @@ impl Grower<'_> {
         if (layout.kind, layout.format) == (FLOW, AGGREGATION) {
             return self.aggregation(depth);
         }
-        let items = layout.shapes.iter().map(|shape| self.item(*shape)).collect();
+        let mode = match self.plan.modes {
+            [only] => *only,
+            several => self.random.pick(several),
+        };
+        let items = layout.shapes.iter().map(|shape| self.item(*shape, mode)).collect();
         self.frame(layout.format, Body::Items(items))
     }
 
@@ -226,7 +232,7 @@ impl Grower<'_> {
         Item::Opaque(Opaque { said: self.said(bytes.len()), bytes, pad: self.pad() })
     }
 
-    fn item(&mut self, shape: Shape) -> Item {
+    fn item(&mut self, shape: Shape, mode: Mode) -> Item {
         match shape {
             Shape::Version => Item::Word(5),
             Shape::Protocol => {
@@ -235,7 +241,7 @@ impl Grower<'_> {
             }
             Shape::Word => Item::Word(self.random.word()),
             Shape::Long => Item::Long(self.random.long()),
-            Shape::Six => Item::Block(self.random.bytes(6)),
+            Shape::Mac => Item::Block(self.random.bytes(mode.mac_size())),
             Shape::SixOfEight => Item::Block(self.random.bytes(8)),
             Shape::Sixteen => Item::Block(self.random.bytes(16)),
             Shape::Address => self.address(),

@@ -2,17 +2,19 @@
 
 pub mod compare;
 pub mod counters;
+pub mod ethernet;
 pub mod fault;
 mod grow;
 pub mod library;
 pub mod listed;
 pub mod make;
+pub mod modes;
 pub mod pads;
 mod paper;
 mod random;
 mod reach;
 mod refused;
-mod shape;
+pub mod shape;
 pub mod stored;
 pub mod strings;
 mod structure;
@@ -23,14 +25,12 @@ mod tree;
 mod value;
 pub mod work;
 
-/// Compares one input as a datagram and as a run; 1 where they differ, and 0 where they do not. `fault` is as in `fault::Library`.
+/// Compares one input in both modes, as a datagram and as a run; 1 where they differ, and 0 where they do not. `fault` is as in `fault::Library`.
 ///
 /// # Safety
 /// `data` points to `length` bytes that can be read.
 #[no_mangle]
 pub unsafe extern "C" fn oracle_judge(data: *const u8, length: usize, fault: u32) -> u32 {
     let input = if length == 0 { &[] } else { std::slice::from_raw_parts(data, length) };
-    let mut judge = compare::Judge::new(fault);
-    judge.case(input);
-    u32::from(judge.tally.differ > 0)
+    u32::from(modes::Judges::new(fault).case(input))
 }

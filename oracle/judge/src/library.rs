@@ -1,7 +1,7 @@
 //! The library's calls and structs as ../../../include/latchplume.h declares them. `c_checks` writes a C program that does not compile
 //! where one of these declarations is not the header's.
 
-use crate::shape::{Descriptor, DESCRIPTOR_WORDS, MAX_DEPTH, MAX_INPUT, MAX_OPAQUE, NOBODY};
+use crate::shape::{Descriptor, Mode, DESCRIPTOR_WORDS, ETHERNET, FLOW, LAYOUTS, MAX_DEPTH, MAX_INPUT, MAX_OPAQUE, NOBODY};
 use crate::value::Value;
 use std::fmt::Write;
 use std::mem::{offset_of, size_of};
@@ -249,8 +249,8 @@ macro_rules! readings {
             $(fn $call(data: *const u8, length: usize, descriptor: *const u32) -> $name;)*
         }
 
-        /// The field reading of a row of `shape::LAYOUTS`: its outcome and its values.
-        pub fn read(row: usize, data: &[u8], descriptor: &Descriptor) -> (Outcome, Vec<Value>) {
+        /// The field reading of a row of `shape::LAYOUTS`, of row 7 the memo's: its outcome and its values.
+        fn read_row(row: usize, data: &[u8], descriptor: &Descriptor) -> (Outcome, Vec<Value>) {
             match row {
                 $($row => {
                     // SAFETY: the pointers are those of a slice and of a descriptor's words, as the header asks for.
@@ -308,6 +308,9 @@ readings! {
 extern "C" {
     fn latchplume_decode(data: *const u8, length: usize, store: *mut u32, words: usize) -> Decoded;
     fn latchplume_decode_run(data: *const u8, length: usize, store: *mut u32, words: usize) -> Answer;
+    fn latchplume_decode_base(data: *const u8, length: usize, store: *mut u32, words: usize) -> Decoded;
+    fn latchplume_decode_run_base(data: *const u8, length: usize, store: *mut u32, words: usize) -> Answer;
+    fn latchplume_read_sampled_ethernet_base(data: *const u8, length: usize, descriptor: *const u32) -> SampledEthernet;
     fn latchplume_payload(data: *const u8, length: usize, descriptor: *const u32) -> Span;
     fn latchplume_whole(data: *const u8, length: usize, descriptor: *const u32) -> Span;
     fn latchplume_list_word(data: *const u8, length: usize, start: usize, count: usize, n: usize) -> Listed;
@@ -317,6 +320,9 @@ extern "C" {
 const OTHER_CALLS: &str = "\
 latchplume_decoded (*const call_decode)(const uint8_t *, size_t, uint32_t *, size_t) = latchplume_decode;
 latchplume_answer (*const call_run)(const uint8_t *, size_t, uint32_t *, size_t) = latchplume_decode_run;
+latchplume_decoded (*const call_decode_base)(const uint8_t *, size_t, uint32_t *, size_t) = latchplume_decode_base;
+latchplume_answer (*const call_run_base)(const uint8_t *, size_t, uint32_t *, size_t) = latchplume_decode_run_base;
+latchplume_sampled_ethernet (*const call_ethernet_base)(const uint8_t *, size_t, const uint32_t *) = latchplume_read_sampled_ethernet_base;
 latchplume_span (*const call_payload)(const uint8_t *, size_t, const uint32_t *) = latchplume_payload;
 latchplume_span (*const call_whole)(const uint8_t *, size_t, const uint32_t *) = latchplume_whole;
 latchplume_listed (*const call_word)(const uint8_t *, size_t, size_t, size_t, size_t) = latchplume_list_word;
@@ -341,14 +347,31 @@ pub fn c_checks() -> String {
     out + OTHER_CALLS
 }
 
-// SAFETY, of all six: the pointers and lengths are those of slices that live through the call and do not overlap.
+// SAFETY, of all that follow: the pointers and lengths are those of slices that live through the call and do not overlap.
 
-pub fn decode(data: &[u8], store: &mut [u32]) -> Decoded {
-    unsafe { latchplume_decode(data.as_ptr(), data.len(), store.as_mut_ptr(), store.len()) }
+pub fn decode(data: &[u8], store: &mut [u32], mode: Mode) -> Decoded {
+    let call = match mode {
+        Mode::Memo => latchplume_decode,
+        Mode::Base => latchplume_decode_base,
+    };
+    unsafe { call(data.as_ptr(), data.len(), store.as_mut_ptr(), store.len()) }
 }
 
-pub fn decode_run(data: &[u8], store: &mut [u32]) -> Answer {
-    unsafe { latchplume_decode_run(data.as_ptr(), data.len(), store.as_mut_ptr(), store.len()) }
+pub fn decode_run(data: &[u8], store: &mut [u32], mode: Mode) -> Answer {
+    let call = match mode {
+        Mode::Memo => latchplume_decode_run,
+        Mode::Base => latchplume_decode_run_base,
+    };
+    unsafe { call(data.as_ptr(), data.len(), store.as_mut_ptr(), store.len()) }
+}
+
+/// The field reading of a row of `shape::LAYOUTS`: its outcome and its values. Only that of a sampled Ethernet record is each mode's own.
+pub fn read(row: usize, data: &[u8], descriptor: &Descriptor, mode: Mode) -> (Outcome, Vec<Value>) {
+    if mode == Mode::Base && (LAYOUTS[row].kind, LAYOUTS[row].format) == (FLOW, ETHERNET) {
+        let got = unsafe { latchplume_read_sampled_ethernet_base(data.as_ptr(), data.len(), descriptor.as_ptr()) };
+        return (got.outcome, got.values());
+    }
+    read_row(row, data, descriptor)
 }
 
 pub fn payload(data: &[u8], descriptor: &Descriptor) -> Span {

@@ -1,9 +1,10 @@
-//! The differences outside the domain that docs/DIFFERENCES.md lists: each input with what the rules and the crate give, as a datagram
-//! and as a run. That each of them is a row of that document, with the same answers, is checked by tests/differences/run.
+//! The differences outside the domain that docs/DIFFERENCES.md lists: each input with what the rules and the crate give, as a datagram and
+//! as a run. No record of the two modes' own is among them: both answer alike. That each of them is a row of that document, with the same
+//! answers, is checked by tests/differences/run.
 
 use crate::compare::{reading_of, theirs};
 use crate::fault::Library;
-use crate::shape::{AGGREGATION, DESCRIPTOR_WORDS, MAX_DEPTH, MAX_INPUT, MAX_OPAQUE};
+use crate::shape::{Mode, AGGREGATION, DESCRIPTOR_WORDS, MAX_DEPTH, MAX_INPUT, MAX_OPAQUE};
 use crate::tally::{same, Checked, Tally};
 use crate::tree::*;
 
@@ -18,7 +19,7 @@ struct Row {
     crates_run: (u32, usize),
 }
 
-fn frame(format: u32, body: Body) -> Frame {
+pub fn frame(format: u32, body: Body) -> Frame {
     Frame { format, said: None, body, cut: 0, left: Vec::new(), pad: [0; 3] }
 }
 
@@ -118,16 +119,24 @@ fn opened() -> Vec<Row> {
     ]
 }
 
-fn check_row(row: &Row, library: &Library) -> Checked {
+/// What the library and the rules answer in a mode.
+fn check_mode(row: &Row, library: &Library) -> Checked {
     let mut store = vec![0; row.input.len().min(4096) * DESCRIPTOR_WORDS];
     let ours = library.decode(&row.input, &mut store).answer;
     let run = library.decode_run(&row.input, &mut store);
-    let name = |part: &str| format!("listed, {}: {part}", row.what);
+    let name = |part: &str| format!("listed, {}, {}: {part}", row.what, library.mode);
     same(&name("code and position"), &(ours.code, ours.at), &row.ours)?;
     same(&name("code and position as a run"), &(run.code, run.at), &row.ours_run)?;
-    let [one, run] = [false, true].map(|run| reading_of(&row.input, run));
+    let [one, run] = [false, true].map(|run| reading_of(&row.input, run, library.mode));
     same(&name("the rules' code and position"), &(one.code, one.at), &row.ours)?;
-    same(&name("the rules' code and position as a run"), &(run.code, run.at), &row.ours_run)?;
+    same(&name("the rules' code and position as a run"), &(run.code, run.at), &row.ours_run)
+}
+
+fn check_row(row: &Row, fault: u32) -> Checked {
+    for mode in [Mode::Memo, Mode::Base] {
+        check_mode(row, &Library { fault, mode })?;
+    }
+    let name = |part: &str| format!("listed, {}: {part}", row.what);
     let crates = theirs(&row.input, false).map_or_else(|refused| refused.code, |_| 0);
     same(&name("the crate's code"), &crates, &row.crates)?;
     let crates = theirs(&row.input, true).map_or_else(|refused| (refused.code, 0), |all| (0, all.len()));
@@ -151,10 +160,10 @@ pub fn show() {
 }
 
 pub fn check(fault: u32) -> Tally {
-    let (mut tally, library) = (Tally::default(), Library { fault });
+    let mut tally = Tally::default();
     for row in rows() {
         tally.cases += 1;
-        if let Err(found) = check_row(&row, &library) {
+        if let Err(found) = check_row(&row, fault) {
             tally.differ += 1;
             tally.note(found, &row.input);
         }

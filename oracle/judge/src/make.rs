@@ -2,16 +2,20 @@
 
 use crate::grow::{Grower, Plan};
 use crate::random::Random;
-use crate::shape::MAX_DEPTH;
+use crate::shape::{Mode, MAX_DEPTH};
 
-pub fn input(seed: u64, case: u64) -> Vec<u8> {
+/// Each record is made by the layout of either mode.
+pub const EITHER: &[Mode] = &[Mode::Memo, Mode::Base];
+
+/// The same seed, case and modes give the same bytes.
+pub fn input(seed: u64, case: u64, modes: &'static [Mode]) -> Vec<u8> {
     let mut random = Random::of_case(seed, case);
     let manner = random.below(100);
     let trouble = if (42..80).contains(&manner) { 50 } else { 0 };
     let mut bytes = Vec::new();
     let datagrams = if random.chance(1, 5) { 2 + random.below(3) } else { 1 };
     for _ in 0..datagrams {
-        bytes.extend(datagram(&mut random, trouble));
+        bytes.extend(datagram(&mut random, trouble, modes));
     }
     if random.chance(1, 8) {
         let length = 1 + random.below(9);
@@ -25,7 +29,7 @@ pub fn input(seed: u64, case: u64) -> Vec<u8> {
     bytes
 }
 
-fn datagram(random: &mut Random, trouble: usize) -> Vec<u8> {
+fn datagram(random: &mut Random, trouble: usize, modes: &'static [Mode]) -> Vec<u8> {
     // One below the deepest is a place that goes wrong, too; the next is one whose first wrong record holds another.
     let reach = match random.below(12) {
         0 => MAX_DEPTH,
@@ -33,7 +37,7 @@ fn datagram(random: &mut Random, trouble: usize) -> Vec<u8> {
         2 if trouble > 0 => MAX_DEPTH + 1 + random.below(2) as u32,
         _ => 0,
     };
-    let plan = Plan { trouble, outside: random.chance(1, 5), reach };
+    let plan = Plan { trouble, outside: random.chance(1, 5), reach, modes };
     Grower { random, plan }.datagram().bytes()
 }
 

@@ -1,6 +1,6 @@
-//! Request §11, bytes that must not matter (docs/RULES.md, R2.4): an accepted input, read as one datagram, with other bytes in its pads, and with other
-//! bytes behind the datagram, more of them or fewer, is answered as it was. Which bytes are pads is told by the reading by the rules
-//! (`paper`); the library has no part in that.
+//! Request §11, bytes that must not matter (docs/RULES.md, R2.4): an accepted input, read as one datagram, with other bytes in its pads,
+//! and with other bytes behind the datagram, more of them or fewer, is answered as it was, in each mode. Which bytes are pads is told by
+//! the reading by the rules (`paper`); the library has no part in that.
 
 use crate::compare::{lent, theirs};
 use crate::fault::Library;
@@ -23,12 +23,12 @@ const NEXT_CASE: u64 = 1 << 32;
 /// From so many inputs on, pads of every sort must have been there, and half of the changes to other bytes must have been noticed.
 const ENOUGH: u64 = 20_000;
 
-/// The input of this number: the first that the rules accept of the cases that are tried for it.
-fn accepted(seed: u64, number: u64) -> (Vec<u8>, Reading) {
+/// The input of this number: the first that the rules accept in this mode of the cases that are tried for it.
+fn accepted(seed: u64, number: u64, mode: Mode) -> (Vec<u8>, Reading) {
     let mut case = number;
     loop {
-        let input = make::input(seed, case);
-        let reading = paper::decode(&input);
+        let input = make::input(seed, case, make::EITHER);
+        let reading = paper::decode(&input, mode);
         if reading.code == 0 {
             return (input, reading);
         }
@@ -45,13 +45,13 @@ struct Answered {
 }
 
 /// An accepted input, and all that is answered to it.
-struct Base<'a> {
+struct Original<'a> {
     data: &'a [u8],
     reading: &'a Reading,
     ours: Answered,
     /// Of each descriptor.
     fields: Vec<Vec<Value>>,
-    /// What the crate gives, unless it refuses a record that only it opens.
+    /// What the crate gives in the base mode, unless it refuses a record that only it opens.
     crates: Option<Vec<SFlowDatagram>>,
 }
 
@@ -91,19 +91,19 @@ struct Pads {
 }
 
 impl Pads {
-    fn new(seed: u64, fault: u32) -> Self {
-        Pads { seed, library: Library { fault }, tally: Tally::default(), counts: Counts::default() }
+    fn new(seed: u64, fault: u32, mode: Mode) -> Self {
+        Pads { seed, library: Library { fault, mode }, tally: Tally::default(), counts: Counts::default() }
     }
 
     /// The accepted input of this number, and each change to it.
     fn case(&mut self, number: u64) {
-        let (data, reading) = accepted(self.seed, number);
+        let (data, reading) = accepted(self.seed, number, self.library.mode);
         let mut random = Random::of_case(!self.seed, number);
         self.tally.cases += 1;
         self.tally.bytes += data.len() as u64;
         self.count(&data, &reading);
-        let base = match self.base(&data, &reading, random.below(2 * DESCRIPTOR_WORDS)) {
-            Ok(base) => base,
+        let original = match self.original(&data, &reading, random.below(2 * DESCRIPTOR_WORDS)) {
+            Ok(original) => original,
             Err(found) => {
                 self.tally.differ += 1;
                 return self.tally.note(found, &data);
@@ -112,13 +112,13 @@ impl Pads {
         let changes = changes(&data, &reading, number.is_multiple_of(LONGEST), &mut random);
         let mut differs = false;
         for (what, changed) in &changes {
-            if let Err(found) = self.compare(&base, changed) {
+            if let Err(found) = self.compare(&original, changed) {
                 differs = true;
                 self.note(what, found, &data, changed);
             }
         }
         self.tally.differ += u64::from(differs);
-        self.counts.noticed += u64::from(self.notices(&base, &mut random));
+        self.counts.noticed += u64::from(self.notices(&original, &mut random));
     }
 
     /// The changed input is noted, and the one that it was beside the difference.
@@ -139,15 +139,24 @@ impl Pads {
     }
 
     /// The input as it is: the library answers what the rules say, and the crate accepts what it does not open by itself.
-    fn base<'a>(&self, data: &'a [u8], reading: &'a Reading, spare: usize) -> Result<Base<'a>, Difference> {
+    fn original<'a>(&self, data: &'a [u8], reading: &'a Reading, spare: usize) -> Result<Original<'a>, Difference> {
         let needed = reading.store.len();
         let ours = self.asked(data, needed * DESCRIPTOR_WORDS + spare);
         same("unchanged: answer", &ours.answer, &(0, reading.at, reading.steps, needed))?;
         same("unchanged: descriptors", &&ours.store[..needed * DESCRIPTOR_WORDS], &&reading.store.concat()[..])?;
+        let crates = self.asked_crate(data, reading)?;
+        let fields = reading.store.iter().map(|descriptor| self.fields(data, descriptor)).collect();
+        Ok(Original { data, reading, ours, fields, crates })
+    }
+
+    /// What the crate gives for the input as it is; it reads only as the base mode does.
+    fn asked_crate(&self, data: &[u8], reading: &Reading) -> Result<Option<Vec<SFlowDatagram>>, Difference> {
+        if self.library.mode == Mode::Memo {
+            return Ok(None);
+        }
         let crates = theirs(data, false);
         same("unchanged: the crate accepts it", &(crates.is_ok() || !reading.opened.is_empty()), &true)?;
-        let fields = reading.store.iter().map(|descriptor| self.fields(data, descriptor)).collect();
-        Ok(Base { data, reading, ours, fields, crates: crates.ok() })
+        Ok(crates.ok())
     }
 
     fn asked(&self, data: &[u8], words: usize) -> Answered {
@@ -191,22 +200,22 @@ impl Pads {
     }
 
     /// A changed input against the one that it was.
-    fn compare(&mut self, base: &Base, changed: &[u8]) -> Checked {
+    fn compare(&mut self, original: &Original, changed: &[u8]) -> Checked {
         self.counts.changed += 1;
-        let ours = self.asked(changed, base.ours.store.len());
-        same("code, position, steps, needed", &ours.answer, &base.ours.answer)?;
-        same("header", &ours.header, &base.ours.header)?;
-        same("store", &ours.store, &base.ours.store)?;
-        self.compare_fields(base, changed)?;
-        let (before, after) = (base.reading, paper::decode(changed));
+        let ours = self.asked(changed, original.ours.store.len());
+        same("code, position, steps, needed", &ours.answer, &original.ours.answer)?;
+        same("header", &ours.header, &original.ours.header)?;
+        same("store", &ours.store, &original.ours.store)?;
+        self.compare_fields(original, changed)?;
+        let (before, after) = (original.reading, paper::decode(changed, self.library.mode));
         same("the rules' answer", &(after.code, after.at, after.steps), &(before.code, before.at, before.steps))?;
         same("the rules' descriptors and pads", &(&after.store, &after.pads), &(&before.store, &before.pads))?;
-        self.compare_crate(base, changed)
+        self.compare_crate(original, changed)
     }
 
     /// The same descriptors are read to the same fields.
-    fn compare_fields(&self, base: &Base, changed: &[u8]) -> Checked {
-        for (descriptor, before) in base.reading.store.iter().zip(&base.fields) {
+    fn compare_fields(&self, original: &Original, changed: &[u8]) -> Checked {
+        for (descriptor, before) in original.reading.store.iter().zip(&original.fields) {
             let after = self.fields(changed, descriptor);
             if after != *before {
                 return same(&format!("fields of {}/{}", descriptor[0], descriptor[1]), &after, before);
@@ -216,8 +225,8 @@ impl Pads {
     }
 
     /// The crate accepts the changed input and holds the same.
-    fn compare_crate(&mut self, base: &Base, changed: &[u8]) -> Checked {
-        let Some(before) = &base.crates else {
+    fn compare_crate(&mut self, original: &Original, changed: &[u8]) -> Checked {
+        let Some(before) = &original.crates else {
             self.counts.skipped += 1;
             return Ok(());
         };
@@ -229,15 +238,15 @@ impl Pads {
     }
 
     /// Whether the library answers otherwise once a byte of the datagram is another that is no pad.
-    fn notices(&self, base: &Base, random: &mut Random) -> bool {
-        let is_pad = |at: usize| base.reading.pads.iter().any(|pad| pad.contains(&at));
-        let mut at = random.below(base.reading.at);
+    fn notices(&self, original: &Original, random: &mut Random) -> bool {
+        let is_pad = |at: usize| original.reading.pads.iter().any(|pad| pad.contains(&at));
+        let mut at = random.below(original.reading.at);
         while is_pad(at) {
-            at = random.below(base.reading.at);
+            at = random.below(original.reading.at);
         }
-        let mut changed = base.data.to_vec();
+        let mut changed = original.data.to_vec();
         change(random, &mut changed[at..=at]);
-        self.asked(&changed, base.ours.store.len()) != base.ours || self.compare_fields(base, &changed).is_err()
+        self.asked(&changed, original.ours.store.len()) != original.ours || self.compare_fields(original, &changed).is_err()
     }
 }
 
@@ -321,39 +330,52 @@ fn all_at_once(data: &[u8], reading: &Reading, random: &mut Random) -> Vec<u8> {
 }
 
 /// The sorts of pads that are in none of the inputs.
-fn unreached(tally: &Tally) -> Vec<Place> {
-    let has_pads = |layout: &&Layout| layout.shapes.iter().any(|shape| matches!(shape, Shape::Text | Shape::Opaque));
+fn unreached(tally: &Tally, mode: Mode) -> Vec<Place> {
+    let has_pad = |shape: &Shape| matches!(shape, Shape::Text | Shape::Opaque) || (*shape, mode) == (Shape::Mac, Mode::Memo);
+    let has_pads = |layout: &&Layout| layout.shapes.iter().any(has_pad);
     let mut all = vec![Place::SampleFrame, Place::RecordFrame(FLOW), Place::RecordFrame(COUNTER)];
     all.extend(LAYOUTS.iter().filter(has_pads).map(|layout| Place::Flow(layout.format)));
     all.retain(|place| tally.keys().all(|key| key != Key::Pad(*place)));
     all
 }
 
-/// Compares so many accepted inputs with what they are changed to, and tells what was found. Answers whether all is as it must be.
+/// Compares so many accepted inputs of each mode with what they are changed to, and tells what was found. Answers whether all is as it must
+/// be.
 pub fn holds(cases: u64, seed: u64, fault: u32) -> bool {
+    let found = [Mode::Base, Mode::Memo].map(|mode| in_mode(cases, seed, fault, mode));
+    let differ: u64 = found.iter().map(|(differ, _)| differ).sum();
+    println!("{} compared, {differ} differ", 2 * cases);
+    differ == 0 && found.iter().all(|(_, reached)| *reached)
+}
+
+/// How many inputs differ, and whether enough was reached.
+fn in_mode(cases: u64, seed: u64, fault: u32, mode: Mode) -> (u64, bool) {
     let (mut tally, mut counts) = (Tally::default(), Counts::default());
-    for worker in work::on_all_cores(cases, || Pads::new(seed, fault), Pads::case) {
+    for worker in work::on_all_cores(cases, || Pads::new(seed, fault, mode), Pads::case) {
         tally.merge(worker.tally);
         counts.merge(worker.counts);
     }
-    print_counts(&tally, &counts);
+    println!("mode {mode}:");
+    print_counts(&tally, &counts, mode);
     let mut lacks = Vec::new();
     if cases >= ENOUGH {
-        lacks.extend(unreached(&tally).iter().map(|place| format!("never reached: a pad of {place:?}")));
+        lacks.extend(unreached(&tally, mode).iter().map(|place| format!("never reached: a pad of {place:?}")));
         lacks.extend((counts.noticed * 2 < cases).then(|| "too few changes to bytes that are no pads were noticed".to_string()));
     }
     lacks.iter().for_each(|what| println!("{what}"));
-    tally.print_differences();
-    println!("{cases} compared, {} differ", tally.differ);
-    tally.differ == 0 && lacks.is_empty()
+    tally.print_differences(&format!("{mode}, "));
+    println!("{mode}: {cases} compared, {} differ", tally.differ);
+    (tally.differ, lacks.is_empty())
 }
 
-fn print_counts(tally: &Tally, counts: &Counts) {
+fn print_counts(tally: &Tally, counts: &Counts, mode: Mode) {
     let Counts { padded, tails, pads, changed, asked, skipped, noticed } = counts;
     let (cases, average) = (tally.cases, tally.bytes / tally.cases.max(1));
     tally.print_reached();
     println!("accepted inputs: {cases}, {average} bytes on average, {padded} with pads, {tails} with bytes behind the datagram");
     println!("pad bytes: {pads}; changed inputs compared: {changed}");
-    println!("the crate: asked about {asked} of them; {skipped} are of inputs with a record that only the crate opens, and refuses");
+    if mode == Mode::Base {
+        println!("the crate: asked about {asked} of them; {skipped} are of inputs with a record that only the crate opens, and refuses");
+    }
     println!("a byte that is no pad, changed in each input: another answer or field reading in {noticed}");
 }

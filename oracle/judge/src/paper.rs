@@ -1,7 +1,7 @@
-//! The reading by the rules (docs/RULES.md), first bytes and the position of code 7 included, item by item, written from
-//! their text alone: what the crate cannot tell (positions, steps, starts, first bytes, depth 9) comes from here, and whether an input
-//! lies in the domain of equality. Where the crate can tell, both are compared with it: of a position, it tells that of code 7, counted
-//! from the string's first byte.
+//! The reading by the rules (docs/RULES.md) in both modes, first bytes and the position of code 7 included, item by item, written from
+//! their text alone: what the crate cannot tell (positions, steps, starts, first bytes, depth 9) comes from here, and whether an input lies
+//! in the domain of equality. Where the crate can tell, both are compared with it, in the base mode: of a position, it tells that of code
+//! 7, counted from the string's first byte.
 
 use crate::shape::*;
 use crate::value::{sixteen, Value};
@@ -23,7 +23,7 @@ pub struct Cursor<'a> {
     pub steps: usize,
     /// Where the last string's first byte is.
     text: usize,
-    /// The pads of the opaques and strings that have one.
+    /// The pads of the opaques and strings that have one, and those of the memo's Ethernet addresses.
     pads: Vec<Range<usize>>,
 }
 
@@ -122,14 +122,23 @@ impl<'a> Cursor<'a> {
         Ok((start, count))
     }
 
-    pub fn item(&mut self, shape: Shape) -> Read<Value> {
+    /// An Ethernet address of flow record 2; in the memo's mode its pad is a part of the item.
+    fn mac(&mut self, mode: Mode) -> Read<Value> {
+        let bytes = self.block(mode.mac_size())?;
+        if bytes.len() > 6 {
+            self.pads.push(self.at - (bytes.len() - 6)..self.at);
+        }
+        Ok(Value::block(&bytes[..6]))
+    }
+
+    pub fn item(&mut self, shape: Shape, mode: Mode) -> Read<Value> {
         let span = |(start, count)| Value::Span(start, count);
         Ok(match shape {
             Shape::Version => Value::Word(self.word_that(3, |version| version == 5)?),
             Shape::Protocol => Value::Word(self.word_that(6, |protocol| (1..=17).contains(&protocol))?),
             Shape::Word => Value::Word(self.word()?),
             Shape::Long => Value::Long(u64::from_be_bytes(self.block(8)?.try_into().unwrap())),
-            Shape::Six => Value::block(self.block(6)?),
+            Shape::Mac => self.mac(mode)?,
             Shape::SixOfEight => Value::block(&self.block(8)?[..6]),
             Shape::Sixteen => Value::block(self.block(16)?),
             Shape::Address => self.address()?,
@@ -177,12 +186,14 @@ pub struct Reading {
     pub text: usize,
     /// The sample or record whose field was refused.
     pub within: Option<Descriptor>,
-    /// Of what is accepted, the pads of the opaques and strings that have one: one to three bytes each, behind the payload.
+    /// Of what is accepted, the pads of the opaques and strings that have one: one to three bytes each, behind the payload. In the memo's
+    /// mode also the two bytes behind each Ethernet address of flow record 2.
     pub pads: Vec<Range<usize>>,
 }
 
 struct Reader<'a> {
     cursor: Cursor<'a>,
+    mode: Mode,
     store: Vec<Descriptor>,
     header: Vec<Value>,
     place: Place,
@@ -191,9 +202,9 @@ struct Reader<'a> {
 }
 
 impl<'a> Reader<'a> {
-    fn new(data: &'a [u8]) -> Self {
+    fn new(data: &'a [u8], mode: Mode) -> Self {
         let cursor = Cursor::new(data, 0, data.len());
-        Reader { cursor, store: Vec::new(), header: Vec::new(), place: Place::Header, opened: Vec::new(), at_limit: 0 }
+        Reader { cursor, mode, store: Vec::new(), header: Vec::new(), place: Place::Header, opened: Vec::new(), at_limit: 0 }
     }
 
     /// Writes a descriptor, and answers its index. What it stands for has its first byte at `first`, and its range is a start and a length.
@@ -208,7 +219,7 @@ impl<'a> Reader<'a> {
         self.place = Place::Header;
         self.header.clear();
         for shape in LAYOUTS[0].shapes {
-            let value = self.cursor.item(*shape)?;
+            let value = self.cursor.item(*shape, self.mode)?;
             self.header.push(value);
         }
         for _ in 0..last_word(&self.header) {
@@ -242,7 +253,7 @@ impl<'a> Reader<'a> {
         let kind = if matches!(format, 2 | 4) { COUNTER } else { FLOW };
         let mut count = 0;
         for shape in layout.shapes {
-            count = last_word(&[self.cursor.item(*shape)?]);
+            count = last_word(&[self.cursor.item(*shape, self.mode)?]);
         }
         for _ in 0..count {
             self.record(kind, own, 1)?;
@@ -273,7 +284,7 @@ impl<'a> Reader<'a> {
         self.place = if kind == COUNTER { Place::Counter(format) } else { Place::Flow(format) };
         let mut last = Value::Word(0);
         for shape in layout.shapes {
-            last = self.cursor.item(*shape)?;
+            last = self.cursor.item(*shape, self.mode)?;
         }
         if (kind, format) == (FLOW, AGGREGATION) {
             for _ in 0..last_word(&[last]) {
@@ -315,8 +326,8 @@ fn last_word(values: &[Value]) -> u32 {
 }
 
 /// One datagram.
-pub fn decode(data: &[u8]) -> Reading {
-    let mut reader = Reader::new(data);
+pub fn decode(data: &[u8], mode: Mode) -> Reading {
+    let mut reader = Reader::new(data, mode);
     if data.len() > MAX_INPUT {
         return reader.answer(1, 0);
     }
@@ -330,8 +341,8 @@ pub fn decode(data: &[u8]) -> Reading {
 }
 
 /// Datagrams end to end: code 2 ends the run, any other refuses it.
-pub fn decode_run(data: &[u8]) -> Reading {
-    let mut reader = Reader::new(data);
+pub fn decode_run(data: &[u8], mode: Mode) -> Reading {
+    let mut reader = Reader::new(data, mode);
     if data.len() > MAX_INPUT {
         return reader.answer(1, 0);
     }
@@ -351,7 +362,7 @@ pub fn decode_run(data: &[u8]) -> Reading {
 }
 
 /// What a field reading of this layout answers for a descriptor: code, position and steps, and the values, none on a refusal.
-pub fn fields(data: &[u8], descriptor: &Descriptor, layout: &Layout) -> ((u32, usize, usize), Vec<Value>) {
+pub fn fields(data: &[u8], descriptor: &Descriptor, layout: &Layout, mode: Mode) -> ((u32, usize, usize), Vec<Value>) {
     let [kind, format, start, length, ..] = *descriptor;
     let end = start as usize + length as usize;
     if data.len() > MAX_INPUT {
@@ -366,7 +377,7 @@ pub fn fields(data: &[u8], descriptor: &Descriptor, layout: &Layout) -> ((u32, u
     let mut cursor = Cursor::new(data, start as usize, end);
     let mut values = Vec::with_capacity(layout.shapes.len());
     for shape in layout.shapes {
-        match cursor.item(*shape) {
+        match cursor.item(*shape, mode) {
             Ok(value) => values.push(value),
             Err(refusal) => return ((refusal.code, refusal.at, cursor.steps), Vec::new()),
         }

@@ -2,7 +2,7 @@
 
 use crate::paper::{self, Reading};
 use crate::shape::*;
-use crate::tally::{Key, Tally, AGENTS, BEHIND, LEFT, NOT_ASCII, RUBBISH};
+use crate::tally::{Key, Tally, AGENTS, BEHIND, LEFT, LONGEST_ETHERNET, NOT_ASCII, RUBBISH};
 use crate::value::Value;
 
 /// The formats, codes and classes of a reading, and the code of the run.
@@ -31,7 +31,7 @@ pub fn count(tally: &mut Tally, reading: &Reading, run: &Reading) {
 }
 
 /// What an accepted datagram holds besides its formats.
-pub fn see(tally: &mut Tally, data: &[u8], reading: &Reading) {
+pub fn see(tally: &mut Tally, data: &[u8], reading: &Reading, mode: Mode) {
     if let Some(Value::Address(kind, _)) = reading.header.get(1) {
         tally.reach(Key::Seen(AGENTS[*kind as usize]));
     }
@@ -45,13 +45,13 @@ pub fn see(tally: &mut Tally, data: &[u8], reading: &Reading) {
             tally.reach(Key::Seen(RUBBISH));
         }
         if let (FLOW | COUNTER, Some(layout)) = (kind, layout_of(kind, format)) {
-            see_record(tally, data, descriptor, layout);
+            see_record(tally, data, descriptor, layout, mode);
         }
     }
 }
 
-fn see_record(tally: &mut Tally, data: &[u8], descriptor: &Descriptor, layout: &Layout) {
-    let ((_, at, _), values) = paper::fields(data, descriptor, layout);
+fn see_record(tally: &mut Tally, data: &[u8], descriptor: &Descriptor, layout: &Layout, mode: Mode) {
+    let ((_, at, _), values) = paper::fields(data, descriptor, layout, mode);
     if layout.format != AGGREGATION && at < (descriptor[2] + descriptor[3]) as usize {
         tally.reach(Key::Seen(LEFT));
     }
@@ -60,6 +60,15 @@ fn see_record(tally: &mut Tally, data: &[u8], descriptor: &Descriptor, layout: &
             if !data[*start..start + count].is_ascii() {
                 tally.reach(Key::Seen(NOT_ASCII));
             }
+        }
+    }
+}
+
+/// The lengths of the sampled Ethernet records of a reading: of those that are read, and of the one that is refused.
+pub fn count_ethernet(tally: &mut Tally, reading: &Reading) {
+    for [kind, format, _, length, ..] in reading.store.iter().chain(&reading.within) {
+        if (*kind, *format) == (FLOW, ETHERNET) && *length <= LONGEST_ETHERNET {
+            tally.reach(Key::Ethernet(reading.code, *length));
         }
     }
 }

@@ -1,4 +1,38 @@
-//! The layouts of docs/RULES.md as one table, a descriptor's words, and which records the crate opens that the rules keep raw.
+//! The layouts of docs/RULES.md as one table, the two modes, a descriptor's words, and which records the crate opens that the rules keep
+//! raw.
+
+/// How the Ethernet addresses of flow record 2 are read: with two bytes of pad, as the memo has them, or without, as the crate does.
+#[derive(Clone, Copy, PartialEq, Eq, PartialOrd, Ord, Debug)]
+pub enum Mode {
+    Memo,
+    Base,
+}
+
+impl std::fmt::Display for Mode {
+    fn fmt(&self, f: &mut std::fmt::Formatter) -> std::fmt::Result {
+        f.write_str(match self {
+            Mode::Memo => "memo",
+            Mode::Base => "base",
+        })
+    }
+}
+
+impl Mode {
+    /// The bytes of such an address, its pad among them.
+    pub fn mac_size(self) -> usize {
+        match self {
+            Mode::Memo => 8,
+            Mode::Base => 6,
+        }
+    }
+
+    pub fn other(self) -> Self {
+        match self {
+            Mode::Memo => Mode::Base,
+            Mode::Base => Mode::Memo,
+        }
+    }
+}
 
 /// An item of a layout.
 #[derive(Clone, Copy, PartialEq, Debug)]
@@ -7,9 +41,9 @@ pub enum Shape {
     Protocol,
     Word,
     Long,
-    /// A fixed block of six bytes.
-    Six,
-    /// A fixed block of eight bytes, of which the first six count.
+    /// An Ethernet address of flow record 2: a fixed block whose size is the mode's, of which the first six bytes count.
+    Mac,
+    /// A fixed block of eight bytes in both modes, of which the first six count.
     SixOfEight,
     Sixteen,
     Address,
@@ -55,6 +89,7 @@ pub const SAMPLE: u32 = 1;
 pub const FLOW: u32 = 2;
 pub const COUNTER: u32 = 3;
 pub const PDU: u32 = 4;
+pub const ETHERNET: u32 = 2;
 pub const AGGREGATION: u32 = 1016;
 pub const NOBODY: u32 = u32::MAX;
 
@@ -77,7 +112,7 @@ pub const LAYOUTS: [Layout; 32] = [
     row(SAMPLE, 4, &[Word; 4]),
     row(SAMPLE, 5, &[Word; 8]),
     row(FLOW, 1, &[Protocol, Word, Word, Opaque]),
-    row(FLOW, 2, &[Word, Six, Six, Word]),
+    row(FLOW, ETHERNET, &[Word, Mac, Mac, Word]),
     row(FLOW, 3, &[Word; 8]),
     row(FLOW, 4, &[Word, Word, Sixteen, Sixteen, Word, Word, Word, Word]),
     row(FLOW, 1001, &[Word; 4]),

@@ -1,12 +1,12 @@
-//! Inputs with their answers, for a program that replays them where no Rust is at hand: crates/replay. What the crate tells (acceptance,
-//! the kind of refusal, where in a string it stops being UTF-8, the header, each descriptor's kind, format, parent and depth, its fields, the
-//! payload of what is kept raw) is the crate's; other positions, steps, ranges, first bytes and depth 9 are read by the rules. The
-//! library has no part in them.
+//! Inputs with their answers in the base mode, for a program that replays them where no Rust is at hand: crates/replay. What the crate
+//! tells (acceptance, the kind of refusal, where in a string it stops being UTF-8, the header, each descriptor's kind, format, parent and
+//! depth, its fields, the payload of what is kept raw) is the crate's; other positions, steps, ranges, first bytes and depth 9 are read by
+//! the rules. The library has no part in them.
 
 use crate::compare::{brought_inside, holds_alone, is_named, reading_of, theirs, Judge};
 use crate::make;
 use crate::paper::{self, Reading};
-use crate::shape::{layout_of, row_of, Descriptor, DESCRIPTOR_WORDS, LAYOUTS};
+use crate::shape::{layout_of, row_of, Descriptor, Mode, DESCRIPTOR_WORDS, LAYOUTS};
 use crate::structure::{self, Held, Node};
 use crate::tally::{same, Checked, Difference, Key, Tally};
 use crate::value::Value;
@@ -65,7 +65,7 @@ fn fields_agree(data: &[u8], descriptor: &Descriptor, node: &Node) -> Checked {
         return Ok(());
     };
     let name = format!("the rules and the crate: fields of {}/{}", node.kind, node.format);
-    let ((code, ..), values) = paper::fields(data, descriptor, layout);
+    let ((code, ..), values) = paper::fields(data, descriptor, layout, Mode::Base);
     same(&name, &(code, values.len()), &(0, node.held.len()))?;
     for (index, (value, held)) in values.iter().zip(&node.held).enumerate() {
         let alike = match (*value, held) {
@@ -98,7 +98,7 @@ fn is_path(data: &[u8], start: usize, count: usize, own: &[AsPathSegment]) -> bo
 
 /// The rules' answer, once the crate has been asked. Only depth 9 is the rules' alone.
 fn agreed(data: &[u8], run: bool) -> Result<Answer, Difference> {
-    let reading = reading_of(data, run);
+    let reading = reading_of(data, run, Mode::Base);
     if reading.code == 8 {
         return Ok(Answer { reading, header: Vec::new() });
     }
@@ -142,7 +142,7 @@ fn hex(bytes: &[u8]) -> String {
 /// The field reading of a descriptor: code, position and steps, and each value behind a space.
 fn put_fields(line: &mut String, data: &[u8], descriptor: &Descriptor) {
     let Some(layout) = layout_of(descriptor[0], descriptor[1]) else { return };
-    let ((code, at, steps), values) = paper::fields(data, descriptor, layout);
+    let ((code, at, steps), values) = paper::fields(data, descriptor, layout, Mode::Base);
     let _ = write!(line, "; {code},{at},{steps}");
     for value in values {
         let _ = match value {
@@ -158,7 +158,7 @@ fn put_fields(line: &mut String, data: &[u8], descriptor: &Descriptor) {
 impl Case {
     /// With room for all and `spare` words besides; or with too little, by one word up to those of a descriptor.
     fn new(data: &[u8], call: Call, enough: bool, spare: usize) -> Self {
-        let all = reading_of(data, call == Call::Run).store.len() * DESCRIPTOR_WORDS;
+        let all = reading_of(data, call == Call::Run, Mode::Base).store.len() * DESCRIPTOR_WORDS;
         let words = if enough || all == 0 { all + spare } else { all - 1 - spare % DESCRIPTOR_WORDS };
         Case { call, words, data: data.to_vec() }
     }
@@ -218,11 +218,11 @@ fn chosen(seed: u64) -> (Vec<Vec<u8>>, Tally) {
     let (mut inputs, mut all) = (Vec::new(), Tally::default());
     let mut counts: BTreeMap<Key, usize> = BTreeMap::new();
     for case in 0..TRIED {
-        let input = make::input(seed, case);
+        let input = make::input(seed, case, &[Mode::Base]);
         if input.len() > LONGEST {
             continue;
         }
-        let mut judge = Judge::new(0);
+        let mut judge = Judge::new(0, Mode::Base);
         judge.case(&input);
         if judge.tally.keys().any(|key| counts.get(&key).is_none_or(|count| *count < EACH)) {
             judge.tally.keys().for_each(|key| *counts.entry(key).or_insert(0) += 1);
@@ -241,7 +241,7 @@ fn fielded<'a>(given: &'a [Vec<u8>], chosen: &'a [Vec<u8>]) -> Vec<&'a [u8]> {
     let mut counts = [0; LAYOUTS.len()];
     let mut all = Vec::new();
     for (data, always) in given.iter().map(|data| (data, true)).chain(chosen.iter().map(|data| (data, false))) {
-        let reading = reading_of(data, false);
+        let reading = reading_of(data, false, Mode::Base);
         let rows: Vec<usize> = reading.store.iter().filter_map(|[kind, format, ..]| row_of(*kind, *format)).collect();
         if reading.code == 0 && (always || rows.iter().any(|row| counts[*row] < FIELDED)) {
             if !always {
@@ -262,7 +262,7 @@ pub fn cases(seed: u64, given: &[Vec<u8>]) -> (Vec<Case>, Tally) {
     }
     let (inputs, tally) = chosen(seed);
     for (n, data) in inputs.iter().enumerate() {
-        let one = reading_of(data, false);
+        let one = reading_of(data, false, Mode::Base);
         let several = one.code == 0 && one.at < data.len();
         let call = if several || n % 4 == 3 { Call::Run } else { Call::One };
         all.push(Case::new(data, call, n % 8 != 5, n % SPARE));

@@ -1,8 +1,8 @@
 //! Strings that are not random, each in a datagram that is accepted but for it: every short one at the edges of UTF-8, and each kind of
 //! ill-formed sequence at each place of a text.
 
+use crate::modes::Both;
 use crate::sweep::words;
-use crate::tally::Tally;
 use crate::work;
 
 /// Bytes at the edges of what UTF-8 allows in each place of a character.
@@ -132,7 +132,7 @@ fn tunnel(mut name: Vec<u8>) -> Vec<u8> {
 }
 
 /// Every short string, by itself and in the middle of a long text; and each sequence at each place of each text.
-pub fn all(fault: u32) -> Tally {
+pub fn all(fault: u32) -> Both {
     let long = "\u{e9}\u{65e5}\u{672c}\u{1f980}a".repeat(8);
     let places = places();
     let total = 2 * SHORT + SEQUENCES.len() * AROUND.len() * places.len();
@@ -173,6 +173,6 @@ fn one_of_all(case: usize) -> Vec<u8> {
 }
 
 /// Every string of one to three bytes, and the characters of four bytes around each bound.
-pub fn every(fault: u32) -> Tally {
+pub fn every(fault: u32) -> Both {
     work::spread((UP_TO_THREE + OF_FOUR) as u64, fault, |case| tunnel(one_of_all(case as usize)))
 }

@@ -1,30 +1,31 @@
 //! Inputs that are not random: every byte of a datagram of each format, and inputs at the longest length.
 
-use crate::compare::Judge;
 use crate::grow::{Grower, Plan};
+use crate::modes::{Both, Judges};
 use crate::random::Random;
 use crate::shape::*;
-use crate::tally::Tally;
 use crate::work;
 
 /// The longest datagram of some that are not too long to be swept.
-fn sizeable(grow: impl Fn(&mut Grower) -> Vec<u8>, reach: u32) -> Vec<u8> {
-    let plan = Plan { trouble: 0, outside: false, reach };
+fn sizeable(grow: impl Fn(&mut Grower) -> Vec<u8>, reach: u32, modes: &'static [Mode]) -> Vec<u8> {
+    let plan = Plan { trouble: 0, outside: false, reach, modes };
     let grown = (0..64).map(|case| grow(&mut Grower { random: &mut Random::of_case(1, case), plan }));
     grown.filter(|bytes| bytes.len() <= 300).max_by_key(Vec::len).expect("one of 64 is short enough")
 }
 
 fn bases() -> Vec<Vec<u8>> {
-    let mut all: Vec<Vec<u8>> = LAYOUTS.iter().map(|layout| sizeable(|g| g.datagram_of(layout).bytes(), 0)).collect();
-    let deep = sizeable(|g| g.datagram().bytes(), MAX_DEPTH);
+    let of = |layout: &Layout, modes| sizeable(|g| g.datagram_of(layout).bytes(), 0, modes);
+    let mut all: Vec<Vec<u8>> = LAYOUTS.iter().map(|layout| of(layout, &[Mode::Base])).collect();
+    let deep = sizeable(|g| g.datagram().bytes(), MAX_DEPTH, &[Mode::Base]);
     all.push(deep);
     let two = [all[2].clone(), all[1].clone()].concat();
     all.push(two);
+    all.push(of(layout_of(FLOW, ETHERNET).unwrap(), &[Mode::Memo]));
     all
 }
 
 /// Every truncation, and every value of every byte.
-pub fn every_byte(fault: u32) -> Tally {
+pub fn every_byte(fault: u32) -> Both {
     let bases = bases();
     let inputs = |base: &[u8]| base.len() as u64 * 257;
     let total = bases.iter().map(|base| inputs(base)).sum();
@@ -111,16 +112,16 @@ fn long_inputs(length: usize) -> Vec<(&'static str, Vec<u8>)> {
 }
 
 /// Inputs of the longest length, of one byte less and of one more, filled up with zeros; and such as lack their last bytes.
-pub fn long(fault: u32) -> Tally {
-    let mut judge = Judge::new(fault);
+pub fn long(fault: u32) -> Both {
+    let mut judges = Judges::new(fault);
     for length in [MAX_INPUT - 1, MAX_INPUT, MAX_INPUT + 1] {
         for made in [length, length + 4] {
             for (name, mut input) in long_inputs(made) {
                 eprintln!("{length} bytes, made for {made}: {name}");
                 input.resize(length, 0);
-                judge.case(&input);
+                judges.case(&input);
             }
         }
     }
-    judge.tally
+    judges.ended()
 }

@@ -28,7 +28,12 @@ pub enum Key {
     Long(u32),
     /// A byte of a pad behind what is read there, in an accepted datagram.
     Pad(Place),
+    /// A sampled Ethernet record: the code that it is read with, and its length.
+    Ethernet(u32, u32),
 }
+
+/// Sampled Ethernet records of at most so many bytes are counted by their length.
+pub const LONGEST_ETHERNET: u32 = 40;
 
 /// What accepted datagrams hold besides: address types, strings, and bytes that are to be passed over.
 pub const AGENTS: [&str; 3] = ["agent 0", "agent 1", "agent 2"];
@@ -132,19 +137,21 @@ impl Tally {
         println!("{line}");
     }
 
-    pub fn print_differences(&self) {
+    /// What differs, each kind behind `of`.
+    pub fn print_differences(&self, of: &str) {
         for (kind, seen) in &self.differences {
             let shown = &seen.smallest[..seen.smallest.len().min(PRINTED)];
             let hex: String = shown.iter().map(|byte| format!("{byte:02x}")).collect();
-            println!("differs: {kind}: {} times; smallest, {} bytes: {}", seen.count, seen.smallest.len(), seen.detail);
+            println!("differs: {of}{kind}: {} times; smallest, {} bytes: {}", seen.count, seen.smallest.len(), seen.detail);
             println!("  {hex}");
         }
     }
 
-    /// What must be reached by a large number of cases, and was not.
-    pub fn unreached(&self) -> Vec<String> {
-        let missing = required().into_iter().filter(|key| !self.reached.contains_key(key));
-        let unindexed = (self.indexed == 0).then(|| "position of code 7 compared with the crate's index".to_string());
+    /// What of this was not reached; in the base mode a position that the crate's index tells must have been, too.
+    pub fn unreached(&self, required: Vec<Key>, mode: Mode) -> Vec<String> {
+        let unindexed = mode == Mode::Base && !required.is_empty() && self.indexed == 0;
+        let missing = required.into_iter().filter(|key| !self.reached.contains_key(key));
+        let unindexed = unindexed.then(|| "position of code 7 compared with the crate's index".to_string());
         missing.map(named).map(|(of, what)| format!("{of} {what}")).chain(unindexed).collect()
     }
 }
@@ -172,12 +179,22 @@ fn named(key: Key) -> (String, String) {
         Key::Deep(crates) => text("outside, a record at depth 9, where the crate answers", crates),
         Key::Pad(place) => ("pad bytes in".to_string(), format!("{place:?}")),
         Key::Long(crates) => text("outside, input too long, where the crate answers", crates),
+        Key::Ethernet(code, length) => (format!("sampled Ethernet record, code {code}, bytes"), length.to_string()),
     }
 }
 
+/// The lengths of sampled Ethernet records that tell the modes apart.
+pub fn lengths(mode: Mode) -> Vec<Key> {
+    let accepted = if mode == Mode::Memo { 24 } else { 20 };
+    (20..=24).map(|length| Key::Ethernet(if length < accepted { 2 } else { 0 }, length)).collect()
+}
+
 /// Every sample, flow and counter format, code and class of refusal, and every record that only the crate opens.
-fn required() -> Vec<Key> {
-    let mut all = vec![Key::Raw(SAMPLE), Key::Raw(FLOW), Key::Raw(COUNTER), Key::Code(0), Key::RunCode(0), Key::Deep(0), Key::Deep(2)];
+pub fn required(mode: Mode) -> Vec<Key> {
+    let mut all = vec![Key::Raw(SAMPLE), Key::Raw(FLOW), Key::Raw(COUNTER), Key::Code(0), Key::RunCode(0)];
+    if mode == Mode::Base {
+        all.extend([Key::Deep(0), Key::Deep(2)]);
+    }
     all.extend(AGENTS.into_iter().chain([NOT_ASCII, RUBBISH, LEFT, BEHIND]).map(Key::Seen));
     all.extend((2..=9).map(Key::Code));
     all.extend((3..=9).map(Key::RunCode));

@@ -1,7 +1,6 @@
 //! Cases on all cores, with progress.
 
-use crate::compare::Judge;
-use crate::tally::Tally;
+use crate::modes::{Both, Judges};
 use std::io::IsTerminal;
 use std::sync::atomic::{AtomicU64, Ordering};
 use std::thread;
@@ -10,11 +9,14 @@ use std::time::{Duration, Instant};
 /// Cases that a core takes at a time.
 const BATCH: u64 = 512;
 
-/// Compares the cases 0 to `cases` - 1 that `input` makes.
-pub fn spread(cases: u64, fault: u32, input: impl Fn(u64) -> Vec<u8> + Sync) -> Tally {
-    let mut all = Tally::default();
-    let judges = on_all_cores(cases, || Judge::new(fault), |judge, case| judge.case(&input(case)));
-    judges.into_iter().for_each(|judge| all.merge(judge.tally));
+/// Compares the cases 0 to `cases` - 1 that `input` makes, in both modes.
+pub fn spread(cases: u64, fault: u32, input: impl Fn(u64) -> Vec<u8> + Sync) -> Both {
+    let mut all = Both::default();
+    let take = |judges: &mut Judges, case| {
+        judges.case(&input(case));
+    };
+    let workers = on_all_cores(cases, || Judges::new(fault), take);
+    workers.into_iter().for_each(|judges| all.merge(judges.ended()));
     all
 }
 

@@ -11,6 +11,7 @@ decode-run-spec =
     (λ c. search deciding-run)  -- enum-known-r
     (λ c. search deciding-run)  -- enum-known-e
     (λ c. search deciding-run)  -- returns-2
+    (λ c. search deciding-run)  -- slice-aggregate-put-run
     (λ c κs. search deciding-run)  -- put-run-requires
     (λ c. search deciding-run)  -- returns-3
     (λ c. search deciding-run)  -- same-length

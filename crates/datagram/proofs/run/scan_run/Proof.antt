@@ -5,6 +5,7 @@ use Rattle.reading.specs.Answer.{from}
 use Rattle.reading.proofs.Counts.{counted}
 use Rattle.reading.proofs.Runs.{run-from}
 use Rattle.xdr.specs.Shown.{place}
+use Rattle.layout.specs.Chain.{mode-of}
 use Rattle.layout.specs.Scanned.{Scan}
 use Rattle.datagram.proofs.Deciding.{at-start}
 use Rattle.datagram.proofs.Running.{running}
@@ -12,10 +13,10 @@ use Rattle.datagram.proofs.run.scan_run.Statement.{statement}
 use Rattle.datagram.proofs.run.scan_run.Tie as tie
 
 abbrev Inv-loop : tie.InvT-loop
-Inv-loop s cur₀ found₀ cur found = Scan s cur found × (counted found (run-from s (place cur)) ≡ counted 0 (run-from s (from 0)))
+Inv-loop s mode cur₀ found₀ cur found = Scan s cur found × (counted found (run-from (mode-of mode) s (place cur)) ≡ counted 0 (run-from (mode-of mode) s (from 0)))
 
 abbrev μ-loop : tie.MeasureT-loop
-μ-loop s cur₀ found₀ cur found = length s - cur .at
+μ-loop s mode cur₀ found₀ cur found = length s - cur .at
 
 pub scan-run-spec : {M : Type 1} → statement M
 scan-run-spec =

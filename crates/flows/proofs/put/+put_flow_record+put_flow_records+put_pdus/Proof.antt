@@ -1,7 +1,7 @@
 -- The cycle of the second pass: the remaining depth falls at each turn. Assumes nothing.
 use borrow.Author.Needs.{needs}
 use Rattle.reading.specs.Sizes.{depth-limit}
-use Rattle.reading.specs.Layout.{flow, pdu}
+use Rattle.reading.specs.Layout.{base as base-mode, flow, pdu}
 use Rattle.store.proofs.Placing as placing
 use Rattle.flows.proofs.Placing as records
 use Prim.Native.Nat.{ℕ, _+_, _*_, _-_}
@@ -34,13 +34,13 @@ abbrev μ-put-pdus : Measures 2 put-pdus-kinds.ps ℕ
 μ-put-pdus κs a = 4 * a .1 .1 .0 + 3
 
 abbrev put-flow-records-Inv-loop : put-flow-records-lts.InvT-loop
-put-flow-records-Inv-loop s at n left store₀ base parent cur₀ word₀ rest₀ store cur word rest = Places (flow depth-limit left) s n base parent at word₀ store₀ cur word rest store
+put-flow-records-Inv-loop s at n left store₀ base parent cur₀ word₀ rest₀ store cur word rest = Places (flow base-mode depth-limit left) s n base parent at word₀ store₀ cur word rest store
 
 abbrev put-flow-records-μ-loop : put-flow-records-lts.MeasureT-loop
 put-flow-records-μ-loop s at n left store₀ base parent cur₀ word₀ rest₀ store cur word rest = rest
 
 abbrev put-pdus-Inv-loop : put-pdus-lts.InvT-loop
-put-pdus-Inv-loop s at left store₀ base word parent cur₀ to₀ rest₀ store cur to rest = Places (pdu (depth-limit - left) (flow depth-limit left)) s rest₀ base parent cur₀ to₀ store₀ cur to rest store
+put-pdus-Inv-loop s at left store₀ base word parent cur₀ to₀ rest₀ store cur to rest = Places (pdu (depth-limit - left) (flow base-mode depth-limit left)) s rest₀ base parent cur₀ to₀ store₀ cur to rest store
 
 abbrev put-pdus-μ-loop : put-pdus-lts.MeasureT-loop
 put-pdus-μ-loop s at left store₀ base word parent cur₀ to₀ rest₀ store cur to rest = rest

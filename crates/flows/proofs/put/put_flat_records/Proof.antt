@@ -1,7 +1,7 @@
 use Prim.Native.Nat.{_+_, _-_, _≤_}
 use mathlib.Core.Path.{_≡_}
 use Rattle.reading.specs.Sizes.{depth-limit}
-use Rattle.reading.specs.Layout.{flow}
+use Rattle.reading.specs.Layout.{base as base-mode, flow}
 use Rattle.flows.proofs.Placing.{flat}
 use Rattle.store.proofs.Loops.{Places}
 use Rattle.flows.proofs.put.put_flat_records.Statement.{statement}
@@ -9,7 +9,7 @@ use Rattle.flows.proofs.put.put_flat_records.Tie as tie
 
 abbrev Inv-loop : tie.InvT-loop
 Inv-loop s at n left store₀ base parent depth cur₀ word₀ rest₀ store cur word rest =
-    (rest ≤ n) × (depth ≡ depth-limit + 1 - left) × Places (flow depth-limit left) s n base parent at word₀ store₀ cur word rest store
+    (rest ≤ n) × (depth ≡ depth-limit + 1 - left) × Places (flow base-mode depth-limit left) s n base parent at word₀ store₀ cur word rest store
 
 abbrev μ-loop : tie.MeasureT-loop
 μ-loop s at n left store₀ base parent depth cur₀ word₀ rest₀ store cur word rest = rest

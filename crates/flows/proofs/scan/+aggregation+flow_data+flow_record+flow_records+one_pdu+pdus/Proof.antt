@@ -4,6 +4,7 @@ use borrow.Author.Needs.{needs}
 use Rattle.reading.specs.Sizes.{depth-limit}
 use Rattle.reading.specs.Layout.{flows, flow, pdu}
 use Rattle.reading.specs.Answer.{layout-of}
+use Rattle.layout.specs.Chain.{mode-of}
 use Rattle.layout.proofs.Chain.{within-start}
 use Rattle.layout.proofs.Scan as frames
 use Rattle.flows.proofs.Scanning as scan
@@ -60,16 +61,16 @@ abbrev μ-pdus : Measures 1 pdus-kinds.ps ℕ
 μ-pdus κs a = 6 * a .1 .1 .1 .0 + 3
 
 abbrev flow-records-Inv-loop : flow-records-lts.InvT-loop
-flow-records-Inv-loop s n left count cur₀ found₀ rest₀ cur found rest = Counts (flow depth-limit left) s n cur₀ found₀ cur found rest
+flow-records-Inv-loop s n left mode count cur₀ found₀ rest₀ cur found rest = Counts (flow (mode-of mode) depth-limit left) s n cur₀ found₀ cur found rest
 
 abbrev flow-records-μ-loop : flow-records-lts.MeasureT-loop
-flow-records-μ-loop s n left count cur₀ found₀ rest₀ cur found rest = rest
+flow-records-μ-loop s n left mode count cur₀ found₀ rest₀ cur found rest = rest
 
 abbrev pdus-Inv-loop : pdus-lts.InvT-loop
-pdus-Inv-loop s n left count cur₀ found₀ rest₀ cur found rest = Counts (pdu (depth-limit - left) (flow depth-limit left)) s n cur₀ found₀ cur found rest
+pdus-Inv-loop s n left mode count cur₀ found₀ rest₀ cur found rest = Counts (pdu (depth-limit - left) (flow (mode-of mode) depth-limit left)) s n cur₀ found₀ cur found rest
 
 abbrev pdus-μ-loop : pdus-lts.MeasureT-loop
-pdus-μ-loop s n left count cur₀ found₀ rest₀ cur found rest = rest
+pdus-μ-loop s n left mode count cur₀ found₀ rest₀ cur found rest = rest
 
 ruleset scanning = (
   frames.scan-inside,

@@ -1,12 +1,10 @@
-use Rattle.reading.specs.Sizes.{depth-limit}
-use Rattle.reading.specs.Layout.{flow}
+use Rattle.flows.specs.Passing.{Ahead-of}
 use Rattle.flows.proofs.Ahead.{passing}
-use Rattle.layout.proofs.Loops.{Counts}
 use Rattle.flows.proofs.scan_ahead.flow_records.Statement.{statement}
 use Rattle.flows.proofs.scan_ahead.flow_records.Tie as tie
 
 abbrev Inv-loop : tie.InvT-loop
-Inv-loop s n count cur₀ found₀ rest₀ cur found rest = Counts (flow depth-limit depth-limit) s n cur₀ found₀ cur found rest
+Inv-loop s n count cur₀ found₀ rest₀ cur found rest = Ahead-of s cur₀ n found₀ (record { cursor = cur; rest = rest; count = found })
 
 abbrev μ-loop : tie.MeasureT-loop
 μ-loop s n count cur₀ found₀ rest₀ cur found rest = rest

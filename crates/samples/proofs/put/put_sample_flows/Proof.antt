@@ -1,6 +1,6 @@
 -- `samples::put::put_sample_flows` meets its contract. The loop's invariant: to write on is to write all. Assumes nothing.
 use Rattle.reading.specs.Sizes.{depth-limit}
-use Rattle.reading.specs.Layout.{flow}
+use Rattle.reading.specs.Layout.{base as base-mode, flow}
 use Rattle.store.proofs.Placing.{put-done}
 use Rattle.samples.proofs.Placed.{placed-fills, flat-next, flat-turn, flat}
 use Rattle.store.proofs.Loops.{Places}
@@ -8,7 +8,7 @@ use Rattle.samples.proofs.put.put_sample_flows.Statement.{statement}
 use Rattle.samples.proofs.put.put_sample_flows.Tie as tie
 
 abbrev Inv-loop : tie.InvT-loop
-Inv-loop s at n store₀ base parent cur₀ word₀ rest₀ store cur word rest = Places (flow depth-limit depth-limit) s n base parent at word₀ store₀ cur word rest store
+Inv-loop s at n store₀ base parent cur₀ word₀ rest₀ store cur word rest = Places (flow base-mode depth-limit depth-limit) s n base parent at word₀ store₀ cur word rest store
 
 abbrev μ-loop : tie.MeasureT-loop
 μ-loop s at n store₀ base parent cur₀ word₀ rest₀ store cur word rest = rest

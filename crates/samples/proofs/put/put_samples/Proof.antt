@@ -1,5 +1,5 @@
 use Rattle.reading.specs.Sizes.{depth-limit}
-use Rattle.reading.specs.Layout.{sample}
+use Rattle.reading.specs.Layout.{base as base-mode, sample}
 use Rattle.store.proofs.Placing.{put-done}
 use Rattle.samples.proofs.Placed.{writing}
 use Rattle.store.proofs.Loops.{Places}
@@ -7,7 +7,7 @@ use Rattle.samples.proofs.put.put_samples.Statement.{statement}
 use Rattle.samples.proofs.put.put_samples.Tie as tie
 
 abbrev Inv-loop : tie.InvT-loop
-Inv-loop s at n store₀ base parent cur₀ word₀ rest₀ store cur word rest = Places (sample depth-limit) s n base parent at word₀ store₀ cur word rest store
+Inv-loop s at n store₀ base parent cur₀ word₀ rest₀ store cur word rest = Places (sample base-mode depth-limit) s n base parent at word₀ store₀ cur word rest store
 
 abbrev μ-loop : tie.MeasureT-loop
 μ-loop s at n store₀ base parent cur₀ word₀ rest₀ store cur word rest = rest

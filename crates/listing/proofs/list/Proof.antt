@@ -1,10 +1,10 @@
 use borrow.Author.Needs.{needs}
 use Rattle.datagram.proofs.Deciding.{decoded-room}
-use Rattle.listing.proofs.main.Statement.{statement}
-use Rattle.listing.proofs.main.Tie as tie
+use Rattle.listing.proofs.list.Statement.{statement}
+use Rattle.listing.proofs.list.Tie as tie
 
-pub main-spec : {M : Type 1} → statement M
-main-spec =
+pub list-spec : {M : Type 1} → statement M
+list-spec =
     tie.close
     (tie.spec
     (λ c. search needs)  -- slice-aggregate-read-full main.rt:7:41
