@@ -7,6 +7,7 @@ import frames
 
 MOST_STACK = 16384
 HEAD = struct.Struct("<5QI16s4I4x")  # as answers.c writes it
+MODES = {"": "host", "_base": "host_base"}  # how the calls of a mode end, and the crate that exports them
 
 
 def ask(command, asked):
@@ -48,7 +49,9 @@ def figures():
             found = [difference(c, shown) for c, (shown, _) in zip(asked, answered) if c.group == group]
             wrong = [said for said in found if said]
             yield not wrong, "; ".join([f"answers on {machine}: {group}: {len(wrong)} of {len(found)} calls wrong, at most 0", *wrong[:1]])
-        depth = max(stack for _, stack in answered)
-        yield depth <= MOST_STACK, f"stack on {machine}: {depth} bytes written by the deepest of {len(asked)} calls, at most {MOST_STACK}"
-    size, chain = frames.deepest()
-    yield size <= MOST_STACK, f"stack on x86_64: {size} bytes in the frames of the deepest chain of calls, {len(chain)} of them, at most {MOST_STACK}"
+        for end, crate in MODES.items():
+            depths = [stack for c, (_, stack) in zip(asked, answered) if c.call.endswith("_base") == bool(end)]
+            yield max(depths) <= MOST_STACK, f"stack on {machine}: {max(depths)} bytes written by the deepest of {len(depths)} calls of {crate}, at most {MOST_STACK}"
+    for crate in MODES.values():
+        size, chain = frames.deepest(crate)
+        yield size <= MOST_STACK, f"stack on x86_64: {size} bytes in the frames of the deepest chain of calls of {crate}, {len(chain)} of them, at most {MOST_STACK}"

@@ -1,4 +1,4 @@
-"""The most stack that the x86-64 archive can need, from its machine code: the frames along its deepest chain of calls."""
+"""The most stack that each object of the x86-64 archive can need, from its machine code: the frames along its deepest chain of calls."""
 import re
 import shutil
 import subprocess
@@ -21,10 +21,16 @@ def listing():
     return build.fail("no objdump on the path that lists x86-64 code (objdump, x86_64-linux-gnu-objdump or llvm-objdump)")
 
 
-def functions():
+def functions(listed):
     """The lines of each function."""
-    parts = re.split(r"^[0-9a-f]+ <(.+)>:\n", listing(), flags=re.M)
+    parts = re.split(r"^[0-9a-f]+ <(.+)>:\n", listed, flags=re.M)
     return dict(zip(parts[1::2], (part.split("\n") for part in parts[2::2])))
+
+
+def objects():
+    """By the crate that it exports, the functions of each object: both may have one of the same name."""
+    parts = re.split(r"^(\w+)\.o:\s+file format .*\n", listing(), flags=re.M)
+    return {crate: functions(listed) for crate, listed in zip(parts[1::2], parts[2::2])}
 
 
 def frame(name, lines):
@@ -56,11 +62,11 @@ def callees(name, lines, known):
     return found
 
 
-def deepest():
-    """The bytes of the deepest chain, and its functions."""
-    code = functions()
-    if "latchplume_decode" not in code:
-        build.fail("objdump does not list the x86-64 archive")
+def deepest(crate):
+    """Of one object the bytes of the deepest chain, and its functions."""
+    code = objects().get(crate, {})
+    if not any(name.startswith("latchplume_decode") for name in code):
+        build.fail(f"objdump lists no {crate} in the x86-64 archive")
     sizes = {name: frame(name, lines) for name, lines in code.items()}
     calls = {name: callees(name, lines, code) for name, lines in code.items()}
 
