@@ -4,7 +4,7 @@ use mathlib.Core.Path.{◌≡◌}
 use mathlib.Core.List.{List, ◌++◌, append-nil}
 use lib.Dec.{leb}
 use lib.ListN.{replicate}
-use Rattle.reading.specs.Script.{Width, four, sixteen, octet_count, number, octets, address, Item, tested, block}
+use Rattle.reading.specs.Script.{Width, four, six, eight, sixteen, octet_count, number, octets, address, Item, tested, block}
 use Rattle.reading.specs.Cursor.{Place, got, stop, read_item}
 use Rattle.reading.specs.Layout.{addr}
 use Rattle.reading.proofs.Fields.{address_out, field_out}
@@ -31,9 +31,13 @@ module _ (s : List ℕ) (p : Place) where
   unfolding address_out
   bytes_cut four t is_four e = rw (← e)
   bytes_cut sixteen t is_sixteen e = rw (← e)
+  bytes_cut six t k e = elim k [ ]
+  bytes_cut eight t k e = elim k [ ]
 
   pub bytes_got : {b : List ℕ} {q : Place} (w : Width) (t : ℕ) → Typed w t → got (octets b) q ≡ read_item (block w) s p
       → address_out t s p ≡ got (address t (b ++ replicate (16 - octet_count w) 0)) q
   unfolding address_out
   bytes_got four t is_four e = rw (← e)
   bytes_got sixteen t is_sixteen e = rw (← e, append-nil)
+  bytes_got six t k e = elim k [ ]
+  bytes_got eight t k e = elim k [ ]

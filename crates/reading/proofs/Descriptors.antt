@@ -18,7 +18,7 @@ use Rattle.reading.proofs.Fields.{reads_shown}
 use Rattle.reading.proofs.Items.{either}
 use Rattle.reading.proofs.Codes.{datagram_coded, run_coded}
 use Rattle.reading.proofs.Stored.{rows_length}
-use Rattle.reading.proofs.Holding.{read_here, FieldsOf, Holds, Readable, also}
+use Rattle.reading.proofs.Holding.{read_here, FieldsOf, Holds, Readable, none, also}
 use Rattle.reading.proofs.Readable.{datagram_of, accepted_readable, run_readable}
 
 -- a range stands in a forest, with `inner` inside it
@@ -28,6 +28,7 @@ pub data Among (r : Range) (inner : Forest) : Forest → Type 0 where
   later : {o : Range} {within after : Forest} → Among r inner after → Among r inner (tree o within after)
 
 of_each : {mode : Mode} {s : List ℕ} {r : Range} {inner f : Forest} → Readable mode s f → Among r inner f → read_here r.kind r.format ≡ true → (vs : List Value) × Holds mode s r vs inner
+of_each none m k = elim m [ ]
 of_each (also h i j) this k = h k
 of_each (also h i j) (inside m) k = of_each i m k
 of_each (also h i j) (later m) k = of_each j m k

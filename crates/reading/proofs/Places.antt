@@ -41,10 +41,12 @@ pub record Given (o : Out Found) : Type 0 where
 
 pub given : (o : Out Found) → Accepted o → Given o
 given (got a q) accepted = record { found = a; last = q; is = refl }
+given (stop c a n) h = elim h [ ]
 
 -- the same, whatever the steps before it
 pub alike_accepted : {o u : Out Found} → Alike o u → Accepted o → Accepted u
 alike_accepted (both_got e) accepted = accepted
+alike_accepted both_stop h = elim h [ ]
 
 pub alike_ranges : {o u : Out Found} → Alike o u → ranges_of o ≡ ranges_of u
 unfolding ranges_of
@@ -54,6 +56,7 @@ alike_ranges both_stop = refl
 pub alike_end : {o u : Out Found} → Alike o u → Accepted o → end_of o ≡ end_of u
 unfolding end_of
 alike_end (both_got e) accepted = e
+alike_end both_stop h = elim h [ ]
 
 -- ---- a frame: what it holds is read so in the whole input too
 pub record FrameAt (kind depth : ℕ) (body : ℕ → Script) (s : List ℕ) (at : ℕ) : Type 0 where

@@ -2,8 +2,8 @@ use Rattle.fields.proofs.Asking.{asked}
 use Rattle.host_base.proofs.latchplume_read_sampled_ethernet_base.Statement.{statement}
 use Rattle.host_base.proofs.latchplume_read_sampled_ethernet_base.Tie as tie
 
-pub latchplume-read-sampled-ethernet-base-spec : {M : Type 1} → statement M
-latchplume-read-sampled-ethernet-base-spec =
+pub latchplume_read_sampled_ethernet_base_spec : {M : Type 1} → statement M
+latchplume_read_sampled_ethernet_base_spec =
     tie.close
     (tie.spec
     (λ c κs. search asked)  -- ask-requires

@@ -3,8 +3,8 @@ use Rattle.datagram.proofs.Deciding.{decoded_room}
 use Rattle.listing.proofs.list.Statement.{statement}
 use Rattle.listing.proofs.list.Tie as tie
 
-pub list-spec : {M : Type 1} → statement M
-list-spec =
+pub list_spec : {M : Type 1} → statement M
+list_spec =
     tie.close
     (tie.spec
     (λ c. search rules)  -- slice-aggregate-read-full main.rt:7:41

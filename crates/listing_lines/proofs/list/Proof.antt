@@ -9,8 +9,8 @@ use Rattle.listing_lines.proofs.list.Tie as tie
 there : {code m : ℕ} (n : ℕ) → (code ≡ 0 → descriptor_words * n ≤ m) → code ≡ 0 → descriptor_words * n ≤ m
 there n h e = h e
 
-pub list-spec : {M : Type 1} → statement M
-list-spec =
+pub list_spec : {M : Type 1} → statement M
+list_spec =
     tie.close
     (tie.spec
     (λ c. search rules)  -- slice-aggregate-word lib.rt:41:10

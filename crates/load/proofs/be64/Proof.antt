@@ -3,9 +3,9 @@ use Rattle.reading.specs.Bytes.{be8}
 use Rattle.load.proofs.be64.Statement.{statement}
 use Rattle.load.proofs.be64.Tie as tie
 
-pub be64-spec : {M : Type 1} → statement M
+pub be64_spec : {M : Type 1} → statement M
 unfolding be8
-be64-spec =
+be64_spec =
     tie.close
     (tie.spec
     (λ c κs. search rules)  -- be32-requires load.rt:31:16

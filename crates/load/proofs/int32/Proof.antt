@@ -3,8 +3,8 @@ use Rattle.load.proofs.Signed.{small, large_fits, large}
 use Rattle.load.proofs.int32.Statement.{statement}
 use Rattle.load.proofs.int32.Tie as tie
 
-pub int32-spec : {M : Type 1} → statement M
-int32-spec = tie.close (tie.spec
+pub int32_spec : {M : Type 1} → statement M
+int32_spec = tie.close (tie.spec
     (λ c. search rules)  -- cast-result load.rt:41:16
     (λ c. small _ c.if1.true)  -- returns load.rt:41:9
     (λ c. search rules)  -- sub-below load.rt:43:18

@@ -3,9 +3,9 @@ use borrow.Author.Rules.{rules}
 use Rattle.load.proofs.turned.Statement.{statement}
 use Rattle.load.proofs.turned.Tie as tie
 
-pub turned-spec : {M : Type 1} → statement M
+pub turned_spec : {M : Type 1} → statement M
 unfolding turned
-turned-spec =
+turned_spec =
     tie.close
     (tie.spec
     (λ c. search rules)  -- mul-result load.rt:30:5

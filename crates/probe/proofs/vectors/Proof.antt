@@ -11,8 +11,8 @@ invariant-loop s at₀ t3 at = at ≤ length s
 abbrev decreases-loop : tie.decreases-loop
 decreases-loop s at₀ t3 at = length s - at
 
-pub vectors-spec : {M : Type 1} → statement M
-vectors-spec =
+pub vectors_spec : {M : Type 1} → statement M
+vectors_spec =
     tie.close
     (tie.spec
     invariant-loop

@@ -5,8 +5,8 @@ use borrow.Author.Rules.{rules}
 use Rattle.replay.proofs.case.Statement.{statement}
 use Rattle.replay.proofs.case.Tie as tie
 
-pub case-spec : {M : Type 1} → statement M
-case-spec =
+pub case_spec : {M : Type 1} → statement M
+case_spec =
     tie.close
     (tie.spec
     (λ c. search rules)  -- slice-aggregate-read-full

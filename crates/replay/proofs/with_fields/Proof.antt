@@ -3,8 +3,8 @@ use Rattle.datagram.proofs.Deciding.{decoded_room}
 use Rattle.replay.proofs.with_fields.Statement.{statement}
 use Rattle.replay.proofs.with_fields.Tie as tie
 
-pub with-fields-spec : {M : Type 1} → statement M
-with-fields-spec =
+pub with_fields_spec : {M : Type 1} → statement M
+with_fields_spec =
     tie.close
     (tie.spec
     (λ c κs. search rules)  -- decode-requires

@@ -3,8 +3,8 @@ use Rattle.store.proofs.put_frame.Statement.{statement}
 use Rattle.store.proofs.put_frame.Tie as tie
 use Rattle.store.proofs.Placing.{frame_put}
 
-pub put-frame-spec : {M : Type 1} → statement M
-put-frame-spec =
+pub put_frame_spec : {M : Type 1} → statement M
+put_frame_spec =
     tie.close
     (tie.spec
     (λ c κs. search rules)  -- be32-requires

@@ -18,8 +18,8 @@ decreases-loop s at₀ at = length s - at
 
 ruleset walking = (all_passed, sequence_passed, none_there, skip_room, skip_same, char_room, char_fits, walk_less, rules)
 
-pub well-formed-spec : {M : Type 1} → statement M
-well-formed-spec =
+pub well_formed_spec : {M : Type 1} → statement M
+well_formed_spec =
     tie.close
     (tie.spec
     invariant-loop

@@ -8,8 +8,8 @@ use Rattle.utf8.proofs.Rows.{width_rows, all_four}
 use Rattle.utf8.proofs.utf8_char.Statement.{statement}
 use Rattle.utf8.proofs.utf8_char.Tie as tie
 
-pub utf8-char-spec : {M : Type 1} → statement M
-utf8-char-spec =
+pub utf8_char_spec : {M : Type 1} → statement M
+utf8_char_spec =
     tie.close
     (tie.spec
     (λ c. search (width_none, rules))  -- returns

@@ -4,9 +4,9 @@ use Rattle.counters.proofs.Formats.{bytes_of, items_of, none}
 use Rattle.counters.proofs.data.fixed.Statement.{statement}
 use Rattle.counters.proofs.data.fixed.Tie as tie
 
-pub fixed-spec : {M : Type 1} → statement M
+pub fixed_spec : {M : Type 1} → statement M
 unfolding sizes_of counters
-fixed-spec =
+fixed_spec =
     tie.close
     (tie.spec
     -- made by layouts/make from layouts/table: from here

@@ -11,8 +11,8 @@ invariant-loop s w cur₀ i₀ cur i = Left s w cur₀ cur i
 abbrev decreases-loop : tie.decreases-loop
 decreases-loop s w cur₀ i₀ cur i = length w - i
 
-pub first-cut-spec : {M : Type 1} → statement M
-first-cut-spec =
+pub first_cut_spec : {M : Type 1} → statement M
+first_cut_spec =
     tie.close
     (tie.spec
     invariant-loop

@@ -2,8 +2,8 @@ use Rattle.datagram.proofs.Deciding.{deciding}
 use Rattle.datagram.proofs.decode.decode.Statement.{statement}
 use Rattle.datagram.proofs.decode.decode.Tie as tie
 
-pub decode-spec : {M : Type 1} → statement M
-decode-spec =
+pub decode_spec : {M : Type 1} → statement M
+decode_spec =
     tie.close
     (tie.spec
     (λ c κs. search deciding)  -- refused-requires

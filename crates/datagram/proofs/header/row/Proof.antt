@@ -4,8 +4,8 @@ use Rattle.datagram.proofs.OneDatagram.{heads}
 use Rattle.datagram.proofs.header.row.Statement.{statement}
 use Rattle.datagram.proofs.header.row.Tie as tie
 
-pub row-spec : {M : Type 1} → statement M
-row-spec = tie.close (tie.spec
+pub row_spec : {M : Type 1} → statement M
+row_spec = tie.close (tie.spec
     (λ c κs. search (within_then, within_ends, rules))  -- version-at-requires
     (λ c κs. search (within_then, within_ends, rules))  -- address-requires
     (λ c κs. search (within_then, within_ends, rules))  -- words-requires

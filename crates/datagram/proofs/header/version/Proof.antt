@@ -2,8 +2,8 @@ use Rattle.layout.proofs.Chain.{items}
 use Rattle.datagram.proofs.header.version.Statement.{statement}
 use Rattle.datagram.proofs.header.version.Tie as tie
 
-pub version-spec : {M : Type 1} → statement M
-version-spec =
+pub version_spec : {M : Type 1} → statement M
+version_spec =
     tie.close (tie.spec
     (λ c. search items)  -- enum-known-p
     (λ c. search items)  -- enum-known-p-2

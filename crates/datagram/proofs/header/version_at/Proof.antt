@@ -3,8 +3,8 @@ use Rattle.datagram.proofs.Version.{no_version, version_five, version_other}
 use Rattle.datagram.proofs.header.version_at.Statement.{statement}
 use Rattle.datagram.proofs.header.version_at.Tie as tie
 
-pub version-at-spec : {M : Type 1} → statement M
-version-at-spec =
+pub version_at_spec : {M : Type 1} → statement M
+version_at_spec =
     tie.close
     (tie.spec
     (λ c κs. search (no_version, version_five, version_other, items))  -- read-u32-requires

@@ -2,8 +2,8 @@ use Rattle.datagram.proofs.OneDatagram.{datagrams}
 use Rattle.datagram.proofs.one.put_datagram.Statement.{statement}
 use Rattle.datagram.proofs.one.put_datagram.Tie as tie
 
-pub put-datagram-spec : {M : Type 1} → statement M
-put-datagram-spec =
+pub put_datagram_spec : {M : Type 1} → statement M
+put_datagram_spec =
     tie.close
     (tie.spec
     (λ c κs. search datagrams)  -- row-requires

@@ -2,8 +2,8 @@ use Rattle.datagram.proofs.OneDatagram.{datagrams}
 use Rattle.datagram.proofs.one.samples_behind.Statement.{statement}
 use Rattle.datagram.proofs.one.samples_behind.Tie as tie
 
-pub samples-behind-spec : {M : Type 1} → statement M
-samples-behind-spec =
+pub samples_behind_spec : {M : Type 1} → statement M
+samples_behind_spec =
     tie.close
     (tie.spec
     (λ c. search datagrams)  -- enum-known-passed

@@ -2,8 +2,8 @@ use Rattle.datagram.proofs.Deciding.{deciding-run}
 use Rattle.datagram.proofs.run.decode_run.Statement.{statement}
 use Rattle.datagram.proofs.run.decode_run.Tie as tie
 
-pub decode-run-spec : {M : Type 1} → statement M
-decode-run-spec =
+pub decode_run_spec : {M : Type 1} → statement M
+decode_run_spec =
     tie.close
     (tie.spec
     (λ c. search deciding-run)  -- returns

@@ -2,8 +2,8 @@ use Rattle.datagram.proofs.Running.{running}
 use Rattle.datagram.proofs.run.put_next.Statement.{statement}
 use Rattle.datagram.proofs.run.put_next.Tie as tie
 
-pub put-next-spec : {M : Type 1} → statement M
-put-next-spec =
+pub put_next_spec : {M : Type 1} → statement M
+put_next_spec =
     tie.close
     (tie.spec
     (λ c. search running)  -- mul-put-datagram

@@ -19,8 +19,8 @@ invariant-loop s store₀ cur₀ word₀ store cur word =
 abbrev decreases-loop : tie.decreases-loop
 decreases-loop s store₀ cur₀ word₀ store cur word = length s - cur
 
-pub put-run-spec : {M : Type 1} → statement M
-put-run-spec =
+pub put_run_spec : {M : Type 1} → statement M
+put_run_spec =
     tie.close
     (tie.spec
     invariant-loop

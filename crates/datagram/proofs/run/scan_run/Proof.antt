@@ -18,8 +18,8 @@ invariant-loop s mode cur₀ found₀ cur found = Scan s cur found × (counted f
 abbrev decreases-loop : tie.decreases-loop
 decreases-loop s mode cur₀ found₀ cur found = length s - cur.at
 
-pub scan-run-spec : {M : Type 1} → statement M
-scan-run-spec =
+pub scan_run_spec : {M : Type 1} → statement M
+scan_run_spec =
     tie.close
     (tie.spec
     invariant-loop

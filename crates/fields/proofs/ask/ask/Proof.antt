@@ -2,8 +2,8 @@ use Rattle.fields.proofs.Asking.{asking}
 use Rattle.fields.proofs.ask.ask.Statement.{statement}
 use Rattle.fields.proofs.ask.ask.Tie as tie
 
-pub ask-spec : {M : Type 1} → statement M
-ask-spec =
+pub ask_spec : {M : Type 1} → statement M
+ask_spec =
     tie.close
     (tie.spec
     (λ c κs. search asking)  -- refused-requires

@@ -2,8 +2,8 @@ use Rattle.fields.proofs.Slices.{slices}
 use Rattle.fields.proofs.lists.list_word.Statement.{statement}
 use Rattle.fields.proofs.lists.list_word.Tie as tie
 
-pub list-word-spec : {M : Type 1} → statement M
-list-word-spec =
+pub list_word_spec : {M : Type 1} → statement M
+list_word_spec =
     tie.close
     (tie.spec
     (λ c. search slices)  -- sub-if3

@@ -2,8 +2,8 @@ use Rattle.fields.proofs.Slices.{slices}
 use Rattle.fields.proofs.lists.next_segment.Statement.{statement}
 use Rattle.fields.proofs.lists.next_segment.Tie as tie
 
-pub next-segment-spec : {M : Type 1} → statement M
-next-segment-spec =
+pub next_segment_spec : {M : Type 1} → statement M
+next_segment_spec =
     tie.close
     (tie.spec
     (λ c κs. search slices)  -- segment-start-requires

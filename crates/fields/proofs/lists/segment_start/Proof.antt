@@ -2,8 +2,8 @@ use Rattle.fields.proofs.Slices.{slices}
 use Rattle.fields.proofs.lists.segment_start.Statement.{statement}
 use Rattle.fields.proofs.lists.segment_start.Tie as tie
 
-pub segment-start-spec : {M : Type 1} → statement M
-segment-start-spec =
+pub segment_start_spec : {M : Type 1} → statement M
+segment_start_spec =
     tie.close
     (tie.spec
     (λ c κs. search slices)  -- unread-requires

@@ -2,8 +2,8 @@ use Rattle.fields.proofs.Slices.{slices}
 use Rattle.fields.proofs.payload.payload.Statement.{statement}
 use Rattle.fields.proofs.payload.payload.Tie as tie
 
-pub payload-spec : {M : Type 1} → statement M
-payload-spec =
+pub payload_spec : {M : Type 1} → statement M
+payload_spec =
     tie.close
     (tie.spec
     (λ c κs. search slices)  -- payload-span-requires

@@ -2,8 +2,8 @@ use Rattle.fields.proofs.Slices.{slices}
 use Rattle.fields.proofs.payload.payload_span.Statement.{statement}
 use Rattle.fields.proofs.payload.payload_span.Tie as tie
 
-pub payload-span-spec : {M : Type 1} → statement M
-payload-span-spec =
+pub payload_span_spec : {M : Type 1} → statement M
+payload_span_spec =
     tie.close
     (tie.spec
     (λ c κs. search slices)  -- descriptor-requires

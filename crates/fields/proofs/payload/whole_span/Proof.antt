@@ -2,8 +2,8 @@ use Rattle.fields.proofs.Slices.{slices}
 use Rattle.fields.proofs.payload.whole_span.Statement.{statement}
 use Rattle.fields.proofs.payload.whole_span.Tie as tie
 
-pub whole-span-spec : {M : Type 1} → statement M
-whole-span-spec =
+pub whole_span_spec : {M : Type 1} → statement M
+whole_span_spec =
     tie.close
     (tie.spec
     (λ c κs. search slices)  -- descriptor-requires

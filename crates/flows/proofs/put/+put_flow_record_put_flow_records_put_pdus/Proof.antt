@@ -81,8 +81,8 @@ ruleset putting = (
   rules,
 )
 
-pub +put-flow-record-put-flow-records-put-pdus-spec : {M : Type 1} → statement M
-+put-flow-record-put-flow-records-put-pdus-spec =
+pub +put_flow_record_put_flow_records_put_pdus_spec : {M : Type 1} → statement M
++put_flow_record_put_flow_records_put_pdus_spec =
     close μ-put-flow-record μ-put-flow-records μ-put-pdus (λ t. put-flow-record-lts.spec (
       be32-reads.Asked,
       be32-reads.Learnt,

@@ -14,8 +14,8 @@ invariant-loop s at n left store₀ base parent depth cur₀ word₀ rest₀ sto
 abbrev decreases-loop : tie.decreases-loop
 decreases-loop s at n left store₀ base parent depth cur₀ word₀ rest₀ store cur word rest = rest
 
-pub put-flat-records-spec : {M : Type 1} → statement M
-put-flat-records-spec =
+pub put_flat_records_spec : {M : Type 1} → statement M
+put_flat_records_spec =
     tie.close
     (tie.spec
     invariant-loop

@@ -104,9 +104,9 @@ ruleset scanning = (
   rules,
 )
 
-pub +aggregation-flow-data-flow-record-flow-records-one-pdu-pdus-spec : {M : Type 1} → statement M
+pub +aggregation_flow_data_flow_record_flow_records_one_pdu_pdus_spec : {M : Type 1} → statement M
 unfolding layout_of flows
-+aggregation-flow-data-flow-record-flow-records-one-pdu-pdus-spec =
++aggregation_flow_data_flow_record_flow_records_one_pdu_pdus_spec =
     close
     μ-aggregation
     μ-flow-data

@@ -9,8 +9,8 @@ invariant-loop s n count cur₀ found₀ rest₀ cur found rest = AheadOf s cur�
 abbrev decreases-loop : tie.decreases-loop
 decreases-loop s n count cur₀ found₀ rest₀ cur found rest = rest
 
-pub flow-records-spec : {M : Type 1} → statement M
-flow-records-spec =
+pub flow_records_spec : {M : Type 1} → statement M
+flow_records_spec =
     tie.close
     (tie.spec
     invariant-loop

@@ -2,8 +2,8 @@ use Rattle.flows.proofs.Ahead.{passing}
 use Rattle.flows.proofs.scan_ahead.one_record.Statement.{statement}
 use Rattle.flows.proofs.scan_ahead.one_record.Tie as tie
 
-pub one-record-spec : {M : Type 1} → statement M
-one-record-spec =
+pub one_record_spec : {M : Type 1} → statement M
+one_record_spec =
     tie.close
     (tie.spec
     (λ c κs. search passing)  -- parse-requires

@@ -5,9 +5,9 @@ use Rattle.flows.proofs.Ahead.{passes_arm, passes_as, passes_none}
 use Rattle.flows.proofs.scan_ahead.payload.Statement.{statement}
 use Rattle.flows.proofs.scan_ahead.payload.Tie as tie
 
-pub payload-spec : {M : Type 1} → statement M
+pub payload_spec : {M : Type 1} → statement M
 unfolding layout_of opened flows
-payload-spec =
+payload_spec =
     tie.close
     (tie.spec
     (λ c κs. search passing)  -- sampled-header-requires

@@ -5,9 +5,9 @@ use Rattle.flows.proofs.scan_ahead.sampled_header.Statement.{statement}
 use Rattle.flows.proofs.scan_ahead.sampled_header.Tie as tie
 use Rattle.flows.proofs.Ahead.{passes_none, sampled_passes}
 
-pub sampled-header-spec : {M : Type 1} → statement M
+pub sampled_header_spec : {M : Type 1} → statement M
 unfolding layout_of opened flows
-sampled-header-spec =
+sampled_header_spec =
     tie.close
     (tie.spec
     (λ c. search rules)  -- sub-room

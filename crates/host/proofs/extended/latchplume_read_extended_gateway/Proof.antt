@@ -3,8 +3,8 @@ use Rattle.fields.proofs.Asking.{asked}
 use Rattle.host.proofs.extended.latchplume_read_extended_gateway.Statement.{statement}
 use Rattle.host.proofs.extended.latchplume_read_extended_gateway.Tie as tie
 
-pub latchplume-read-extended-gateway-spec : {M : Type 1} → statement M
-latchplume-read-extended-gateway-spec =
+pub latchplume_read_extended_gateway_spec : {M : Type 1} → statement M
+latchplume_read_extended_gateway_spec =
     tie.close
     (tie.spec
     (λ c κs. search asked)  -- ask-requires

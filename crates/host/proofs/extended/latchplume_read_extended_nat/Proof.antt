@@ -3,8 +3,8 @@ use Rattle.fields.proofs.Asking.{asked}
 use Rattle.host.proofs.extended.latchplume_read_extended_nat.Statement.{statement}
 use Rattle.host.proofs.extended.latchplume_read_extended_nat.Tie as tie
 
-pub latchplume-read-extended-nat-spec : {M : Type 1} → statement M
-latchplume-read-extended-nat-spec =
+pub latchplume_read_extended_nat_spec : {M : Type 1} → statement M
+latchplume_read_extended_nat_spec =
     tie.close
     (tie.spec
     (λ c κs. search asked)  -- ask-requires

@@ -3,8 +3,8 @@ use Rattle.fields.proofs.Asking.{asked}
 use Rattle.host.proofs.extended.latchplume_read_extended_router.Statement.{statement}
 use Rattle.host.proofs.extended.latchplume_read_extended_router.Tie as tie
 
-pub latchplume-read-extended-router-spec : {M : Type 1} → statement M
-latchplume-read-extended-router-spec =
+pub latchplume_read_extended_router_spec : {M : Type 1} → statement M
+latchplume_read_extended_router_spec =
     tie.close
     (tie.spec
     (λ c κs. search asked)  -- ask-requires

@@ -3,8 +3,8 @@ use Rattle.fields.proofs.Asking.{asked}
 use Rattle.host.proofs.extended.latchplume_read_extended_switch.Statement.{statement}
 use Rattle.host.proofs.extended.latchplume_read_extended_switch.Tie as tie
 
-pub latchplume-read-extended-switch-spec : {M : Type 1} → statement M
-latchplume-read-extended-switch-spec =
+pub latchplume_read_extended_switch_spec : {M : Type 1} → statement M
+latchplume_read_extended_switch_spec =
     tie.close
     (tie.spec
     (λ c κs. search asked)  -- ask-requires

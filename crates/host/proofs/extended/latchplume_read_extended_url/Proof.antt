@@ -3,8 +3,8 @@ use Rattle.fields.proofs.Asking.{asked}
 use Rattle.host.proofs.extended.latchplume_read_extended_url.Statement.{statement}
 use Rattle.host.proofs.extended.latchplume_read_extended_url.Tie as tie
 
-pub latchplume-read-extended-url-spec : {M : Type 1} → statement M
-latchplume-read-extended-url-spec =
+pub latchplume_read_extended_url_spec : {M : Type 1} → statement M
+latchplume_read_extended_url_spec =
     tie.close
     (tie.spec
     (λ c κs. search asked)  -- ask-requires

@@ -3,8 +3,8 @@ use Rattle.fields.proofs.Asking.{asked}
 use Rattle.host.proofs.extended.latchplume_read_extended_user.Statement.{statement}
 use Rattle.host.proofs.extended.latchplume_read_extended_user.Tie as tie
 
-pub latchplume-read-extended-user-spec : {M : Type 1} → statement M
-latchplume-read-extended-user-spec =
+pub latchplume_read_extended_user_spec : {M : Type 1} → statement M
+latchplume_read_extended_user_spec =
     tie.close
     (tie.spec
     (λ c κs. search asked)  -- ask-requires

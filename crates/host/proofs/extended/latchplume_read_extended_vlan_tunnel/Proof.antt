@@ -3,8 +3,8 @@ use Rattle.fields.proofs.Asking.{asked}
 use Rattle.host.proofs.extended.latchplume_read_extended_vlan_tunnel.Statement.{statement}
 use Rattle.host.proofs.extended.latchplume_read_extended_vlan_tunnel.Tie as tie
 
-pub latchplume-read-extended-vlan-tunnel-spec : {M : Type 1} → statement M
-latchplume-read-extended-vlan-tunnel-spec =
+pub latchplume_read_extended_vlan_tunnel_spec : {M : Type 1} → statement M
+latchplume_read_extended_vlan_tunnel_spec =
     tie.close
     (tie.spec
     (λ c κs. search asked)  -- ask-requires

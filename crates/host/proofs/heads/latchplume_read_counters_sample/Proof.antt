@@ -3,8 +3,8 @@ use Rattle.fields.proofs.Asking.{asked}
 use Rattle.host.proofs.heads.latchplume_read_counters_sample.Statement.{statement}
 use Rattle.host.proofs.heads.latchplume_read_counters_sample.Tie as tie
 
-pub latchplume-read-counters-sample-spec : {M : Type 1} → statement M
-latchplume-read-counters-sample-spec =
+pub latchplume_read_counters_sample_spec : {M : Type 1} → statement M
+latchplume_read_counters_sample_spec =
     tie.close
     (tie.spec
     (λ c κs. search asked)  -- ask-requires

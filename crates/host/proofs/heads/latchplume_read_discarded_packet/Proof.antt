@@ -3,8 +3,8 @@ use Rattle.fields.proofs.Asking.{asked}
 use Rattle.host.proofs.heads.latchplume_read_discarded_packet.Statement.{statement}
 use Rattle.host.proofs.heads.latchplume_read_discarded_packet.Tie as tie
 
-pub latchplume-read-discarded-packet-spec : {M : Type 1} → statement M
-latchplume-read-discarded-packet-spec =
+pub latchplume_read_discarded_packet_spec : {M : Type 1} → statement M
+latchplume_read_discarded_packet_spec =
     tie.close
     (tie.spec
     (λ c κs. search asked)  -- ask-requires

@@ -3,8 +3,8 @@ use Rattle.fields.proofs.Asking.{asked}
 use Rattle.host.proofs.heads.latchplume_read_flow_sample.Statement.{statement}
 use Rattle.host.proofs.heads.latchplume_read_flow_sample.Tie as tie
 
-pub latchplume-read-flow-sample-spec : {M : Type 1} → statement M
-latchplume-read-flow-sample-spec =
+pub latchplume_read_flow_sample_spec : {M : Type 1} → statement M
+latchplume_read_flow_sample_spec =
     tie.close
     (tie.spec
     (λ c κs. search asked)  -- ask-requires

@@ -3,8 +3,8 @@ use Rattle.fields.proofs.Asking.{asked}
 use Rattle.host.proofs.heads.latchplume_read_flow_sample_expanded.Statement.{statement}
 use Rattle.host.proofs.heads.latchplume_read_flow_sample_expanded.Tie as tie
 
-pub latchplume-read-flow-sample-expanded-spec : {M : Type 1} → statement M
-latchplume-read-flow-sample-expanded-spec =
+pub latchplume_read_flow_sample_expanded_spec : {M : Type 1} → statement M
+latchplume_read_flow_sample_expanded_spec =
     tie.close
     (tie.spec
     (λ c κs. search asked)  -- ask-requires

@@ -3,8 +3,8 @@ use Rattle.fields.proofs.Asking.{asked}
 use Rattle.host.proofs.heads.latchplume_read_header.Statement.{statement}
 use Rattle.host.proofs.heads.latchplume_read_header.Tie as tie
 
-pub latchplume-read-header-spec : {M : Type 1} → statement M
-latchplume-read-header-spec =
+pub latchplume_read_header_spec : {M : Type 1} → statement M
+latchplume_read_header_spec =
     tie.close
     (tie.spec
     (λ c κs. search asked)  -- ask-requires

@@ -3,8 +3,8 @@ use Rattle.fields.proofs.Asking.{asked}
 use Rattle.host.proofs.mpls.latchplume_read_extended_mpls.Statement.{statement}
 use Rattle.host.proofs.mpls.latchplume_read_extended_mpls.Tie as tie
 
-pub latchplume-read-extended-mpls-spec : {M : Type 1} → statement M
-latchplume-read-extended-mpls-spec =
+pub latchplume_read_extended_mpls_spec : {M : Type 1} → statement M
+latchplume_read_extended_mpls_spec =
     tie.close
     (tie.spec
     (λ c κs. search asked)  -- ask-requires

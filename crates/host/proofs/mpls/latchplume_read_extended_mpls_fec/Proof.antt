@@ -3,8 +3,8 @@ use Rattle.fields.proofs.Asking.{asked}
 use Rattle.host.proofs.mpls.latchplume_read_extended_mpls_fec.Statement.{statement}
 use Rattle.host.proofs.mpls.latchplume_read_extended_mpls_fec.Tie as tie
 
-pub latchplume-read-extended-mpls-fec-spec : {M : Type 1} → statement M
-latchplume-read-extended-mpls-fec-spec =
+pub latchplume_read_extended_mpls_fec_spec : {M : Type 1} → statement M
+latchplume_read_extended_mpls_fec_spec =
     tie.close
     (tie.spec
     (λ c κs. search asked)  -- ask-requires

@@ -3,8 +3,8 @@ use Rattle.fields.proofs.Asking.{asked}
 use Rattle.host.proofs.polled.latchplume_read_ethernet_interface_counters.Statement.{statement}
 use Rattle.host.proofs.polled.latchplume_read_ethernet_interface_counters.Tie as tie
 
-pub latchplume-read-ethernet-interface-counters-spec : {M : Type 1} → statement M
-latchplume-read-ethernet-interface-counters-spec =
+pub latchplume_read_ethernet_interface_counters_spec : {M : Type 1} → statement M
+latchplume_read_ethernet_interface_counters_spec =
     tie.close
     (tie.spec
     (λ c κs. search asked)  -- ask-requires

@@ -3,8 +3,8 @@ use Rattle.fields.proofs.Asking.{asked}
 use Rattle.host.proofs.polled.latchplume_read_token_ring_counters.Statement.{statement}
 use Rattle.host.proofs.polled.latchplume_read_token_ring_counters.Tie as tie
 
-pub latchplume-read-token-ring-counters-spec : {M : Type 1} → statement M
-latchplume-read-token-ring-counters-spec =
+pub latchplume_read_token_ring_counters_spec : {M : Type 1} → statement M
+latchplume_read_token_ring_counters_spec =
     tie.close
     (tie.spec
     (λ c κs. search asked)  -- ask-requires

@@ -3,8 +3,8 @@ use Rattle.fields.proofs.Asking.{asked}
 use Rattle.host.proofs.sampled.latchplume_read_sampled_ethernet.Statement.{statement}
 use Rattle.host.proofs.sampled.latchplume_read_sampled_ethernet.Tie as tie
 
-pub latchplume-read-sampled-ethernet-spec : {M : Type 1} → statement M
-latchplume-read-sampled-ethernet-spec =
+pub latchplume_read_sampled_ethernet_spec : {M : Type 1} → statement M
+latchplume_read_sampled_ethernet_spec =
     tie.close
     (tie.spec
     (λ c κs. search asked)  -- ask-requires

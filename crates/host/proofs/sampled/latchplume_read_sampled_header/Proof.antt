@@ -3,8 +3,8 @@ use Rattle.fields.proofs.Asking.{asked}
 use Rattle.host.proofs.sampled.latchplume_read_sampled_header.Statement.{statement}
 use Rattle.host.proofs.sampled.latchplume_read_sampled_header.Tie as tie
 
-pub latchplume-read-sampled-header-spec : {M : Type 1} → statement M
-latchplume-read-sampled-header-spec =
+pub latchplume_read_sampled_header_spec : {M : Type 1} → statement M
+latchplume_read_sampled_header_spec =
     tie.close
     (tie.spec
     (λ c κs. search asked)  -- ask-requires

@@ -3,8 +3,8 @@ use Rattle.fields.proofs.Asking.{asked}
 use Rattle.host.proofs.sampled.latchplume_read_sampled_ipv4.Statement.{statement}
 use Rattle.host.proofs.sampled.latchplume_read_sampled_ipv4.Tie as tie
 
-pub latchplume-read-sampled-ipv4-spec : {M : Type 1} → statement M
-latchplume-read-sampled-ipv4-spec =
+pub latchplume_read_sampled_ipv4_spec : {M : Type 1} → statement M
+latchplume_read_sampled_ipv4_spec =
     tie.close
     (tie.spec
     (λ c κs. search asked)  -- ask-requires

@@ -3,8 +3,8 @@ use Rattle.fields.proofs.Asking.{asked}
 use Rattle.host.proofs.wireless.latchplume_read_extended_80211_aggregation.Statement.{statement}
 use Rattle.host.proofs.wireless.latchplume_read_extended_80211_aggregation.Tie as tie
 
-pub latchplume-read-extended-80211-aggregation-spec : {M : Type 1} → statement M
-latchplume-read-extended-80211-aggregation-spec =
+pub latchplume_read_extended_80211_aggregation_spec : {M : Type 1} → statement M
+latchplume_read_extended_80211_aggregation_spec =
     tie.close
     (tie.spec
     (λ c κs. search asked)  -- ask-requires

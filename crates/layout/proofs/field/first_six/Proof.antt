@@ -3,8 +3,8 @@ use Rattle.layout.proofs.Chain.{first_six}
 use Rattle.layout.proofs.field.first_six.Statement.{statement}
 use Rattle.layout.proofs.field.first_six.Tie as tie
 
-pub first-six-spec : {M : Type 1} → statement M
-first-six-spec =
+pub first_six_spec : {M : Type 1} → statement M
+first_six_spec =
     tie.close
     (tie.spec
     (λ c. search rules)  -- array-read-t5

@@ -2,8 +2,8 @@ use Rattle.layout.proofs.Chain.{items}
 use Rattle.layout.proofs.field.load1.Statement.{statement}
 use Rattle.layout.proofs.field.load1.Tie as tie
 
-pub load1-spec : {M : Type 1} → statement M
-load1-spec =
+pub load1_spec : {M : Type 1} → statement M
+load1_spec =
     tie.close
     (tie.spec
     (λ c. search items)  -- mul-be32

@@ -2,8 +2,8 @@ use Rattle.layout.proofs.Chain.{items}
 use Rattle.layout.proofs.field.load_words.Statement.{statement}
 use Rattle.layout.proofs.field.load_words.Tie as tie
 
-pub load-words-spec : {M : Type 1} → statement M
-load-words-spec =
+pub load_words_spec : {M : Type 1} → statement M
+load_words_spec =
     tie.close
     (tie.spec
     (λ c κs. search items)  -- load1-requires

@@ -2,8 +2,8 @@ use Rattle.layout.proofs.Chain.{items}
 use Rattle.layout.proofs.field.opaque.Statement.{statement}
 use Rattle.layout.proofs.field.opaque.Tie as tie
 
-pub opaque-spec : {M : Type 1} → statement M
-opaque-spec =
+pub opaque_spec : {M : Type 1} → statement M
+opaque_spec =
     tie.close
     (tie.spec
     (λ c. search items)  -- enum-known-p

@@ -2,8 +2,8 @@ use Rattle.layout.proofs.Chain.{items}
 use Rattle.layout.proofs.field.protocol.Statement.{statement}
 use Rattle.layout.proofs.field.protocol.Tie as tie
 
-pub protocol-spec : {M : Type 1} → statement M
-protocol-spec =
+pub protocol_spec : {M : Type 1} → statement M
+protocol_spec =
     tie.close (tie.spec
     (λ c. search items)  -- enum-known-p
     (λ c. search items)  -- enum-known-p-2

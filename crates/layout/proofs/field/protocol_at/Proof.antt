@@ -3,8 +3,8 @@ use Rattle.layout.proofs.Protocols.{protocols-known}
 use Rattle.layout.proofs.field.protocol_at.Statement.{statement}
 use Rattle.layout.proofs.field.protocol_at.Tie as tie
 
-pub protocol-at-spec : {M : Type 1} → statement M
-protocol-at-spec =
+pub protocol_at_spec : {M : Type 1} → statement M
+protocol_at_spec =
     tie.close
     (tie.spec
     (λ c κs. search (protocols-known, items))  -- read-u32-requires

@@ -2,8 +2,8 @@ use Rattle.layout.proofs.Chain.{items}
 use Rattle.layout.proofs.field.range_at.Statement.{statement}
 use Rattle.layout.proofs.field.range_at.Tie as tie
 
-pub range-at-spec : {M : Type 1} → statement M
-range-at-spec =
+pub range_at_spec : {M : Type 1} → statement M
+range_at_spec =
     tie.close (tie.spec
     (λ c. search items)  -- enum-told
     (λ c κs. search items)  -- list-requires

@@ -2,8 +2,8 @@ use Rattle.layout.proofs.Chain.{items}
 use Rattle.layout.proofs.field.six.Statement.{statement}
 use Rattle.layout.proofs.field.six.Tie as tie
 
-pub six-spec : {M : Type 1} → statement M
-six-spec =
+pub six_spec : {M : Type 1} → statement M
+six_spec =
     tie.close
     (tie.spec
     (λ c. search items)  -- enum-known-p

@@ -2,8 +2,8 @@ use Rattle.layout.proofs.Chain.{items}
 use Rattle.layout.proofs.field.sixteen.Statement.{statement}
 use Rattle.layout.proofs.field.sixteen.Tie as tie
 
-pub sixteen-spec : {M : Type 1} → statement M
-sixteen-spec =
+pub sixteen_spec : {M : Type 1} → statement M
+sixteen_spec =
     tie.close (tie.spec
     (λ c. search items)  -- enum-known-p
     (λ c. search items)  -- enum-known-p-2

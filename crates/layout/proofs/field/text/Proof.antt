@@ -2,8 +2,8 @@ use Rattle.layout.proofs.Chain.{items}
 use Rattle.layout.proofs.field.text.Statement.{statement}
 use Rattle.layout.proofs.field.text.Tie as tie
 
-pub text-spec : {M : Type 1} → statement M
-text-spec =
+pub text_spec : {M : Type 1} → statement M
+text_spec =
     tie.close
     (tie.spec
     (λ c. search items)  -- enum-known-p

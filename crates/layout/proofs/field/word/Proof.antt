@@ -2,8 +2,8 @@ use Rattle.layout.proofs.Chain.{items}
 use Rattle.layout.proofs.field.word.Statement.{statement}
 use Rattle.layout.proofs.field.word.Tie as tie
 
-pub word-spec : {M : Type 1} → statement M
-word-spec =
+pub word_spec : {M : Type 1} → statement M
+word_spec =
     tie.close
     (tie.spec
     (λ c. search items)  -- enum-known-p

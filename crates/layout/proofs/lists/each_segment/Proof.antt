@@ -13,8 +13,8 @@ invariant-loop s n cur₀ left₀ cur left = Inside s cur × (times left (follow
 abbrev decreases-loop : tie.decreases-loop
 decreases-loop s n cur₀ left₀ cur left = left
 
-pub each-segment-spec : {M : Type 1} → statement M
-each-segment-spec =
+pub each_segment_spec : {M : Type 1} → statement M
+each_segment_spec =
     tie.close
     (tie.spec
     invariant-loop

@@ -2,8 +2,8 @@ use Rattle.layout.proofs.Counts.{counts}
 use Rattle.layout.proofs.lists.list.Statement.{statement}
 use Rattle.layout.proofs.lists.list.Tie as tie
 
-pub list-spec : {M : Type 1} → statement M
-list-spec =
+pub list_spec : {M : Type 1} → statement M
+list_spec =
     tie.close
     (tie.spec
     (λ c κs. search counts)  -- read-u32-requires

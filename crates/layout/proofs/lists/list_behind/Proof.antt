@@ -2,8 +2,8 @@ use Rattle.layout.proofs.Chain.{items, no_list}
 use Rattle.layout.proofs.lists.list_behind.Statement.{statement}
 use Rattle.layout.proofs.lists.list_behind.Tie as tie
 
-pub list-behind-spec : {M : Type 1} → statement M
-list-behind-spec =
+pub list_behind_spec : {M : Type 1} → statement M
+list_behind_spec =
     tie.close (tie.spec
     (λ c. search items)  -- enum-known-p
     (λ c κs. search items)  -- counted-requires

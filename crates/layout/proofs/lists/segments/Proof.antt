@@ -2,8 +2,8 @@ use Rattle.layout.proofs.Counts.{counts}
 use Rattle.layout.proofs.lists.segments.Statement.{statement}
 use Rattle.layout.proofs.lists.segments.Tie as tie
 
-pub segments-spec : {M : Type 1} → statement M
-segments-spec =
+pub segments_spec : {M : Type 1} → statement M
+segments_spec =
     tie.close
     (tie.spec
     (λ c κs. search counts)  -- read-u32-requires

@@ -3,8 +3,8 @@ use Rattle.layout.proofs.Chain.{text_passed, item_cut}
 use Rattle.layout.proofs.pass.text_at.Statement.{statement}
 use Rattle.layout.proofs.pass.text_at.Tie as tie
 
-pub text-at-spec : {M : Type 1} → statement M
-text-at-spec =
+pub text_at_spec : {M : Type 1} → statement M
+text_at_spec =
     tie.close
     (tie.spec
     (λ c κs. search (text_passed, item_cut, items))  -- read-opaque-requires

@@ -61,8 +61,8 @@ module _ (z : ℤ) (f : SFits w32 z) (t : lt_z (to_z w32 (of_z w32 z)) (pos 0) �
   unfolding less-is
   more_is = ap (λ (y : ℤ). nat_abs y + 1) less-is.is ∙ add-one n.k ∙ sym (ap nat_abs n.is)
 
-pub distance-spec : {M : Type 1} → statement M
-distance-spec = tie.close (tie.spec
+pub distance_spec : {M : Type 1} → statement M
+distance_spec = tie.close (tie.spec
     (λ c. less-fits _ c.before.ranges.z c.if1.true)  -- sub-result print.rt:29:17
     (λ c. cast (less-is _ c.before.ranges.z c.if1.true))  -- cast-result print.rt:29:16
     (λ c. more-fits _ c.before.ranges.z c.if1.true)  -- add-result print.rt:29:16

@@ -11,8 +11,8 @@ invariant-loop s i₀ i = i ≤ length s
 abbrev decreases-loop : tie.decreases-loop
 decreases-loop s i₀ i = length s - i
 
-pub octets-spec : {M : Type 1} → statement M
-octets-spec =
+pub octets_spec : {M : Type 1} → statement M
+octets_spec =
     tie.close
     (tie.spec
     invariant-loop

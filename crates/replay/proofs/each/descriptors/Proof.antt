@@ -9,8 +9,8 @@ invariant-loop s store n i₀ i = i ≤ n
 abbrev decreases-loop : tie.decreases-loop
 decreases-loop s store n i₀ i = n - i
 
-pub descriptors-spec : {M : Type 1} → statement M
-descriptors-spec =
+pub descriptors_spec : {M : Type 1} → statement M
+descriptors_spec =
     tie.close
     (tie.spec
     invariant-loop

@@ -11,8 +11,8 @@ invariant-loop store at d₀ i₀ d i = i ≤ descriptor_words
 abbrev decreases-loop : tie.decreases-loop
 decreases-loop store at d₀ i₀ d i = descriptor_words - i
 
-pub words-at-spec : {M : Type 1} → statement M
-words-at-spec =
+pub words_at_spec : {M : Type 1} → statement M
+words_at_spec =
     tie.close
     (tie.spec
     invariant-loop

@@ -11,8 +11,8 @@ invariant-loop store at i₀ t5 i = i ≤ descriptor_words
 abbrev decreases-loop : tie.decreases-loop
 decreases-loop store at i₀ t5 i = descriptor_words - i
 
-pub descriptor-spec : {M : Type 1} → statement M
-descriptor-spec =
+pub descriptor_spec : {M : Type 1} → statement M
+descriptor_spec =
     tie.close
     (tie.spec
     invariant-loop

@@ -13,8 +13,8 @@ invariant-loop store from n₀ i₀ n i = (i ≤ length store) × (n ≤ i)
 abbrev decreases-loop : tie.decreases-loop
 decreases-loop store from n₀ i₀ n i = length store - i
 
-pub kept-spec : {M : Type 1} → statement M
-kept-spec =
+pub kept_spec : {M : Type 1} → statement M
+kept_spec =
     tie.close
     (tie.spec
     invariant-loop

@@ -9,8 +9,8 @@ use Rattle.replay.proofs.print.left.Tie as tie
 there : {code m : ℕ} (n : ℕ) → (code ≡ 0 → descriptor_words * n ≤ m) → code ≡ 0 → descriptor_words * n ≤ m
 there n h e = h e
 
-pub left-spec : {M : Type 1} → statement M
-left-spec =
+pub left_spec : {M : Type 1} → statement M
+left_spec =
     tie.close
     (tie.spec
     (λ c κs. search (there, rules))  -- behind-requires

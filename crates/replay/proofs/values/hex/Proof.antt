@@ -11,8 +11,8 @@ invariant-loop s i₀ i = i ≤ length s
 abbrev decreases-loop : tie.decreases-loop
 decreases-loop s i₀ i = length s - i
 
-pub hex-spec : {M : Type 1} → statement M
-hex-spec =
+pub hex_spec : {M : Type 1} → statement M
+hex_spec =
     tie.close
     (tie.spec
     invariant-loop

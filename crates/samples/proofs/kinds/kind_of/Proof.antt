@@ -3,9 +3,9 @@ use Rattle.samples.proofs.Formats.{is_kind, low_raw, high_raw}
 use Rattle.samples.proofs.kinds.kind_of.Statement.{statement}
 use Rattle.samples.proofs.kinds.kind_of.Tie as tie
 
-pub kind-of-spec : {M : Type 1} → statement M
+pub kind_of_spec : {M : Type 1} → statement M
 unfolding opened samples
-kind-of-spec = tie.close (tie.spec
+kind_of_spec = tie.close (tie.spec
     (λ c. search (is_kind 1))  -- returns
     (λ c. search (is_kind 2))  -- returns-2
     (λ c. search low_raw)  -- returns-3

@@ -2,8 +2,8 @@ use Rattle.samples.proofs.Placed.{held-records}
 use Rattle.samples.proofs.put.put_aggregation.Statement.{statement}
 use Rattle.samples.proofs.put.put_aggregation.Tie as tie
 
-pub put-aggregation-spec : {M : Type 1} → statement M
-put-aggregation-spec =
+pub put_aggregation_spec : {M : Type 1} → statement M
+put_aggregation_spec =
     tie.close
     (tie.spec
     (λ c κs. search held-records)  -- put-frame-requires

@@ -11,8 +11,8 @@ invariant-loop s at n store₀ base parent cur₀ word₀ rest₀ store cur word
 abbrev decreases-loop : tie.decreases-loop
 decreases-loop s at n store₀ base parent cur₀ word₀ rest₀ store cur word rest = rest
 
-pub put-counter-records-spec : {M : Type 1} → statement M
-put-counter-records-spec =
+pub put_counter_records_spec : {M : Type 1} → statement M
+put_counter_records_spec =
     tie.close
     (tie.spec
     invariant-loop

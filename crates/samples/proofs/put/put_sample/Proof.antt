@@ -5,8 +5,8 @@ use Rattle.samples.proofs.Placed.{writing}
 use Rattle.samples.proofs.put.put_sample.Statement.{statement}
 use Rattle.samples.proofs.put.put_sample.Tie as tie
 
-pub put-sample-spec : {M : Type 1} → statement M
-put-sample-spec =
+pub put_sample_spec : {M : Type 1} → statement M
+put_sample_spec =
     tie.close
     (tie.spec
     (λ c κs. search writing)  -- be32-requires

@@ -5,8 +5,8 @@ use Rattle.samples.proofs.Placed.{arms, writing}
 use Rattle.samples.proofs.put.put_sample_data.Statement.{statement}
 use Rattle.samples.proofs.put.put_sample_data.Tie as tie
 
-pub put-sample-data-spec : {M : Type 1} → statement M
-put-sample-data-spec =
+pub put_sample_data_spec : {M : Type 1} → statement M
+put_sample_data_spec =
     tie.close
     (tie.spec
     (λ c κs. search writing)  -- kind-of-requires

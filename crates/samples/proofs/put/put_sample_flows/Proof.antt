@@ -13,8 +13,8 @@ invariant-loop s at n store₀ base parent cur₀ word₀ rest₀ store cur word
 abbrev decreases-loop : tie.decreases-loop
 decreases-loop s at n store₀ base parent cur₀ word₀ rest₀ store cur word rest = rest
 
-pub put-sample-flows-spec : {M : Type 1} → statement M
-put-sample-flows-spec =
+pub put_sample_flows_spec : {M : Type 1} → statement M
+put_sample_flows_spec =
     tie.close
     (tie.spec
     invariant-loop

@@ -12,8 +12,8 @@ invariant-loop s at n store₀ base parent cur₀ word₀ rest₀ store cur word
 abbrev decreases-loop : tie.decreases-loop
 decreases-loop s at n store₀ base parent cur₀ word₀ rest₀ store cur word rest = rest
 
-pub put-samples-spec : {M : Type 1} → statement M
-put-samples-spec =
+pub put_samples_spec : {M : Type 1} → statement M
+put_samples_spec =
     tie.close
     (tie.spec
     invariant-loop

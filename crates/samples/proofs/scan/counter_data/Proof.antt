@@ -2,8 +2,8 @@ use Rattle.samples.proofs.Sampling.{sampling}
 use Rattle.samples.proofs.scan.counter_data.Statement.{statement}
 use Rattle.samples.proofs.scan.counter_data.Tie as tie
 
-pub counter-data-spec : {M : Type 1} → statement M
-counter-data-spec =
+pub counter_data_spec : {M : Type 1} → statement M
+counter_data_spec =
     tie.close
     (tie.spec
     (λ c κs. search sampling)  -- fixed-requires

@@ -2,8 +2,8 @@ use Rattle.samples.proofs.Sampling.{sampling}
 use Rattle.samples.proofs.scan.counter_record.Statement.{statement}
 use Rattle.samples.proofs.scan.counter_record.Tie as tie
 
-pub counter-record-spec : {M : Type 1} → statement M
-counter-record-spec =
+pub counter_record_spec : {M : Type 1} → statement M
+counter_record_spec =
     tie.close
     (tie.spec
     (λ c κs. search sampling)  -- parse-requires

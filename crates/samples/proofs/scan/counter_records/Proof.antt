@@ -10,8 +10,8 @@ invariant-loop s n count cur₀ found₀ rest₀ cur found rest = Counts counter
 abbrev decreases-loop : tie.decreases-loop
 decreases-loop s n count cur₀ found₀ rest₀ cur found rest = rest
 
-pub counter-records-spec : {M : Type 1} → statement M
-counter-records-spec =
+pub counter_records_spec : {M : Type 1} → statement M
+counter_records_spec =
     tie.close
     (tie.spec
     invariant-loop

@@ -2,8 +2,8 @@ use Rattle.samples.proofs.Sampling.{sampling}
 use Rattle.samples.proofs.scan.counters_behind.Statement.{statement}
 use Rattle.samples.proofs.scan.counters_behind.Tie as tie
 
-pub counters-behind-spec : {M : Type 1} → statement M
-counters-behind-spec =
+pub counters_behind_spec : {M : Type 1} → statement M
+counters_behind_spec =
     tie.close
     (tie.spec
     (λ c. search sampling)  -- enum-known-passed

@@ -2,8 +2,8 @@ use Rattle.samples.proofs.Sampling.{sampling}
 use Rattle.samples.proofs.scan.flows_behind.Statement.{statement}
 use Rattle.samples.proofs.scan.flows_behind.Tie as tie
 
-pub flows-behind-spec : {M : Type 1} → statement M
-flows-behind-spec =
+pub flows_behind_spec : {M : Type 1} → statement M
+flows_behind_spec =
     tie.close
     (tie.spec
     (λ c. search sampling)  -- enum-known-passed

@@ -2,8 +2,8 @@ use Rattle.samples.proofs.Sampling.{sampling}
 use Rattle.samples.proofs.scan.one_sample.Statement.{statement}
 use Rattle.samples.proofs.scan.one_sample.Tie as tie
 
-pub one-sample-spec : {M : Type 1} → statement M
-one-sample-spec =
+pub one_sample_spec : {M : Type 1} → statement M
+one_sample_spec =
     tie.close
     (tie.spec
     (λ c κs. search sampling)  -- parse-requires

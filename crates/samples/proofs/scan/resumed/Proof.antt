@@ -2,8 +2,8 @@ use Rattle.samples.proofs.Sampling.{sampling}
 use Rattle.samples.proofs.scan.resumed.Statement.{statement}
 use Rattle.samples.proofs.scan.resumed.Tie as tie
 
-pub resumed-spec : {M : Type 1} → statement M
-resumed-spec =
+pub resumed_spec : {M : Type 1} → statement M
+resumed_spec =
     tie.close
     (tie.spec
     (λ c. search sampling)  -- enum-known-r

@@ -2,8 +2,8 @@ use Rattle.samples.proofs.Sampling.{sampling}
 use Rattle.samples.proofs.scan.sample_data.Statement.{statement}
 use Rattle.samples.proofs.scan.sample_data.Tie as tie
 
-pub sample-data-spec : {M : Type 1} → statement M
-sample-data-spec =
+pub sample_data_spec : {M : Type 1} → statement M
+sample_data_spec =
     tie.close
     (tie.spec
     (λ c κs. search sampling)  -- kind-of-requires

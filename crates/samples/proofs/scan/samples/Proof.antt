@@ -12,8 +12,8 @@ invariant-loop s n mode count cur₀ found₀ rest₀ cur found rest = Counts (s
 abbrev decreases-loop : tie.decreases-loop
 decreases-loop s n mode count cur₀ found₀ rest₀ cur found rest = rest
 
-pub samples-spec : {M : Type 1} → statement M
-samples-spec =
+pub samples_spec : {M : Type 1} → statement M
+samples_spec =
     tie.close
     (tie.spec
     invariant-loop

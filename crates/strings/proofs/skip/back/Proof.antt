@@ -10,8 +10,8 @@ invariant-loop s low high i₀ i = (low ≤ i) × (i < high)
 abbrev decreases-loop : tie.decreases-loop
 decreases-loop s low high i₀ i = i
 
-pub back-spec : {M : Type 1} → statement M
-back-spec =
+pub back_spec : {M : Type 1} → statement M
+back_spec =
     tie.close
     (tie.spec
     invariant-loop

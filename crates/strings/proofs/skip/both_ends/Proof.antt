@@ -6,8 +6,8 @@ use Rattle.strings.proofs.skip.both_ends.Tie as tie
 
 ruleset looks = (ends_plain, first_other, rules)
 
-pub both-ends-spec : {M : Type 1} → statement M
-both-ends-spec =
+pub both_ends_spec : {M : Type 1} → statement M
+both_ends_spec =
     tie.close
     (tie.spec
     (λ c κs. search looks)  -- block-requires

@@ -4,8 +4,8 @@ use Rattle.strings.proofs.Highs.{last_read, more_read, first_read}
 use Rattle.strings.proofs.skip.eight.Statement.{statement}
 use Rattle.strings.proofs.skip.eight.Tie as tie
 
-pub eight-spec : {M : Type 1} → statement M
-eight-spec =
+pub eight_spec : {M : Type 1} → statement M
+eight_spec =
     tie.close
     (tie.spec
     (λ c. search rules)  -- shared-slice-read-wide

@@ -3,8 +3,8 @@ use Rattle.utf8.proofs.Places.{taken, left}
 use Rattle.strings.proofs.skip.fits.Statement.{statement}
 use Rattle.strings.proofs.skip.fits.Tie as tie
 
-pub fits-spec : {M : Type 1} → statement M
-fits-spec = tie.close (tie.spec
+pub fits_spec : {M : Type 1} → statement M
+fits_spec = tie.close (tie.spec
     (λ c κs. search rules)  -- awaited-requires utf8.rt:204:8
     (λ c κs. search rules)  -- second-requires utf8.rt:205:9
     (λ c. search (taken, left) depth 8)  -- returns utf8.rt:205:9

@@ -4,8 +4,8 @@ use Rattle.strings.proofs.Highs.{last_read, more_read, first_read}
 use Rattle.strings.proofs.skip.four.Statement.{statement}
 use Rattle.strings.proofs.skip.four.Tie as tie
 
-pub four-spec : {M : Type 1} → statement M
-four-spec =
+pub four_spec : {M : Type 1} → statement M
+four_spec =
     tie.close
     (tie.spec
     (λ c. search rules)  -- shared-slice-read-wide

@@ -6,8 +6,8 @@ use Rattle.strings.proofs.skip.last_eight.Tie as tie
 
 ruleset looks = (too_few, too_early, last_look, rules)
 
-pub last-eight-spec : {M : Type 1} → statement M
-last-eight-spec =
+pub last_eight_spec : {M : Type 1} → statement M
+last_eight_spec =
     tie.close
     (tie.spec
     (λ c. search looks)  -- returns

@@ -3,8 +3,8 @@ use Rattle.utf8.proofs.Places.{taken, left}
 use Rattle.strings.proofs.skip.most.Statement.{statement}
 use Rattle.strings.proofs.skip.most.Tie as tie
 
-pub most-spec : {M : Type 1} → statement M
-most-spec = tie.close (tie.spec
+pub most_spec : {M : Type 1} → statement M
+most_spec = tie.close (tie.spec
     (λ c κs. search rules)  -- among-requires utf8.rt:198:8
     (λ c. search (taken, left, rules) depth 8)  -- returns utf8.rt:199:9
     (λ c κs. search rules)  -- among-requires-2 utf8.rt:201:8

@@ -7,8 +7,8 @@ use Rattle.strings.proofs.skip.past.Tie as tie
 
 ruleset skips = (run_room, run_skips, skips_on, rules)
 
-pub past-spec : {M : Type 1} → statement M
-past-spec =
+pub past_spec : {M : Type 1} → statement M
+past_spec =
     tie.close
     (tie.spec
     (λ c κs. search skips)  -- past-run-requires

@@ -17,8 +17,8 @@ invariant-loop s at n i₀ i = (i ≤ length s) × (i + plain (drop i s) / n * n
 abbrev decreases-loop : tie.decreases-loop
 decreases-loop s at n i₀ i = length s - i
 
-pub past-blocks-spec : {M : Type 1} → statement M
-past-blocks-spec =
+pub past_blocks_spec : {M : Type 1} → statement M
+past_blocks_spec =
     tie.close
     (tie.spec
     invariant-loop

@@ -15,8 +15,8 @@ invariant-loop s at i₀ i = (i ≤ length s) × (i + plain (drop i s) ≡ at + 
 abbrev decreases-loop : tie.decreases-loop
 decreases-loop s at i₀ i = length s - i
 
-pub past-bytes-spec : {M : Type 1} → statement M
-past-bytes-spec =
+pub past_bytes_spec : {M : Type 1} → statement M
+past_bytes_spec =
     tie.close
     (tie.spec
     invariant-loop

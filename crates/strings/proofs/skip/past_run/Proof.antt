@@ -8,8 +8,8 @@ use Rattle.strings.proofs.skip.past_run.Tie as tie
 
 ruleset blocks = (run_none, run_ends, blocks_inside, blocks_then, rules)
 
-pub past-run-spec : {M : Type 1} → statement M
-past-run-spec =
+pub past_run_spec : {M : Type 1} → statement M
+past_run_spec =
     tie.close
     (tie.spec
     (λ c. search blocks)  -- returns

@@ -16,8 +16,8 @@ invariant-loop s at n i₀ i = (3 ≤ i) × (tail (get_or s i 0) ≡ false) × S
 abbrev decreases-loop : tie.decreases-loop
 decreases-loop s at n i₀ i = length s - i
 
-pub past-windows-spec : {M : Type 1} → statement M
-past-windows-spec =
+pub past_windows_spec : {M : Type 1} → statement M
+past_windows_spec =
     tie.close
     (tie.spec
     invariant-loop

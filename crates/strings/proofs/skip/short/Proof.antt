@@ -6,8 +6,8 @@ use Rattle.strings.proofs.skip.short.Tie as tie
 
 ruleset skips = (same_place, all_skips, rules)
 
-pub short-spec : {M : Type 1} → statement M
-short-spec =
+pub short_spec : {M : Type 1} → statement M
+short_spec =
     tie.close
     (tie.spec
     (λ c. search skips)  -- returns

@@ -13,8 +13,8 @@ invariant-loop s at n all₀ i₀ all i = (i ≤ n) × (all ≡ all_fit s at i)
 abbrev decreases-loop : tie.decreases-loop
 decreases-loop s at n all₀ i₀ all i = n - i
 
-pub window-spec : {M : Type 1} → statement M
-window-spec =
+pub window_spec : {M : Type 1} → statement M
+window_spec =
     tie.close
     (tie.spec
     invariant-loop

@@ -4,8 +4,8 @@ use Rattle.reading.proofs.Utf8.{among_below, among_from}
 use Rattle.utf8.proofs.ranges.among.Statement.{statement}
 use Rattle.utf8.proofs.ranges.among.Tie as tie
 
-pub among-spec : {M : Type 1} → statement M
-among-spec =
+pub among_spec : {M : Type 1} → statement M
+among_spec =
     tie.close
     (tie.spec
     (λ c. sym (among_below _ _ _ c.if1.taken))  -- returns

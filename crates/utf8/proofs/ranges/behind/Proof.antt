@@ -4,8 +4,8 @@ use Rattle.utf8.proofs.Rows.{gone}
 use Rattle.utf8.proofs.ranges.behind.Statement.{statement}
 use Rattle.utf8.proofs.ranges.behind.Tie as tie
 
-pub behind-spec : {M : Type 1} → statement M
-behind-spec =
+pub behind_spec : {M : Type 1} → statement M
+behind_spec =
     tie.close
     (tie.spec
     (λ c. search rules)  -- sub-if1

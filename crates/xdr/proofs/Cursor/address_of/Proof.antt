@@ -3,8 +3,8 @@ use Rattle.xdr.proofs.Fixed.{fixes}
 use Rattle.xdr.proofs.Cursor.address_of.Statement.{statement}
 use Rattle.xdr.proofs.Cursor.address_of.Tie as tie
 
-pub address-of-spec : {M : Type 1} → statement M
-address-of-spec =
+pub address_of_spec : {M : Type 1} → statement M
+address_of_spec =
     tie.close
     (tie.spec
     (λ c κs. search (items, fixes))  -- read-fixed-requires addresses.rt:36:13

@@ -3,8 +3,8 @@ use Rattle.xdr.proofs.Fixed.{fixes}
 use Rattle.xdr.proofs.Cursor.parse_address.Statement.{statement}
 use Rattle.xdr.proofs.Cursor.parse_address.Tie as tie
 
-pub parse-address-spec : {M : Type 1} → statement M
-parse-address-spec =
+pub parse_address_spec : {M : Type 1} → statement M
+parse_address_spec =
     tie.close
     (tie.spec
     (λ c κs. search (items, fixes))  -- read-u32-requires addresses.rt:55:15

@@ -3,8 +3,8 @@ use Rattle.xdr.proofs.Fixed.{fixes}
 use Rattle.xdr.proofs.Cursor.read_fixed.Statement.{statement}
 use Rattle.xdr.proofs.Cursor.read_fixed.Tie as tie
 
-pub read-fixed-spec : {M : Type 1} → statement M
-read-fixed-spec =
+pub read_fixed_spec : {M : Type 1} → statement M
+read_fixed_spec =
     tie.close
     (tie.spec
     (λ c κs. search (items, fixes))  -- octets-requires blocks.rt:46:28

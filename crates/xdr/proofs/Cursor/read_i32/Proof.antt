@@ -2,8 +2,8 @@ use Rattle.xdr.proofs.Laws.{items}
 use Rattle.xdr.proofs.Cursor.read_i32.Statement.{statement}
 use Rattle.xdr.proofs.Cursor.read_i32.Tie as tie
 
-pub read-i32-spec : {M : Type 1} → statement M
-read-i32-spec =
+pub read_i32_spec : {M : Type 1} → statement M
+read_i32_spec =
     tie.close
     (tie.spec
     (λ c κs. search items)  -- read-u32-requires words.rt:33:15

@@ -2,8 +2,8 @@ use Rattle.xdr.proofs.Laws.{items}
 use Rattle.xdr.proofs.Cursor.read_opaque.Statement.{statement}
 use Rattle.xdr.proofs.Cursor.read_opaque.Tie as tie
 
-pub read-opaque-spec : {M : Type 1} → statement M
-read-opaque-spec =
+pub read_opaque_spec : {M : Type 1} → statement M
+read_opaque_spec =
     tie.close
     (tie.spec
     (λ c κs. search items)  -- read-u32-requires opaques.rt:20:15

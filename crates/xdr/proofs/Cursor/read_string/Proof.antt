@@ -2,8 +2,8 @@ use Rattle.xdr.proofs.Laws.{items}
 use Rattle.xdr.proofs.Cursor.read_string.Statement.{statement}
 use Rattle.xdr.proofs.Cursor.read_string.Tie as tie
 
-pub read-string-spec : {M : Type 1} → statement M
-read-string-spec =
+pub read_string_spec : {M : Type 1} → statement M
+read_string_spec =
     tie.close
     (tie.spec
     (λ c κs. search items)  -- read-opaque-requires

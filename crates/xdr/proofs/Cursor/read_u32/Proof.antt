@@ -2,8 +2,8 @@ use Rattle.xdr.proofs.Laws.{items}
 use Rattle.xdr.proofs.Cursor.read_u32.Statement.{statement}
 use Rattle.xdr.proofs.Cursor.read_u32.Tie as tie
 
-pub read-u32-spec : {M : Type 1} → statement M
-read-u32-spec =
+pub read_u32_spec : {M : Type 1} → statement M
+read_u32_spec =
     tie.close (tie.spec
     (λ c. search items)  -- sub-if1 words.rt:22:12
     (λ c κs. search items)  -- refusal-requires words.rt:23:31

@@ -2,8 +2,8 @@ use Rattle.xdr.proofs.Laws.{items}
 use Rattle.xdr.proofs.Cursor.read_u64.Statement.{statement}
 use Rattle.xdr.proofs.Cursor.read_u64.Tie as tie
 
-pub read-u64-spec : {M : Type 1} → statement M
-read-u64-spec =
+pub read_u64_spec : {M : Type 1} → statement M
+read_u64_spec =
     tie.close (tie.spec
     (λ c κs. search items)  -- skip-requires words.rt:57:15
     (λ c. search items)  -- enum-known-r words.rt:58:26

@@ -2,8 +2,8 @@ use Rattle.xdr.proofs.Laws.{items}
 use Rattle.xdr.proofs.Cursor.read_words.Statement.{statement}
 use Rattle.xdr.proofs.Cursor.read_words.Tie as tie
 
-pub read-words-spec : {M : Type 1} → statement M
-read-words-spec =
+pub read_words_spec : {M : Type 1} → statement M
+read_words_spec =
     tie.close (tie.spec
     (λ c. search items)  -- sub-there words.rt:71:22
     (λ c. search items)  -- mul-t11 words.rt:75:26

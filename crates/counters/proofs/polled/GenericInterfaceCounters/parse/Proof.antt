@@ -8,9 +8,9 @@ use Rattle.counters.proofs.Reading.{fixed_read, reads}
 use Rattle.counters.proofs.polled.GenericInterfaceCounters.parse.Statement.{statement}
 use Rattle.counters.proofs.polled.GenericInterfaceCounters.parse.Tie as tie
 
-pub parse-spec : {M : Type 1} → statement M
+pub parse_spec : {M : Type 1} → statement M
 unfolding layout_of sizes_of counters
-parse-spec =
+parse_spec =
     tie.close
     (tie.spec
     (λ c κs. search reads)  -- read-requires

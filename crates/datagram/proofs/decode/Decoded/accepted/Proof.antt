@@ -4,8 +4,8 @@ use Rattle.datagram.proofs.Deciding.{inside_start, never_refused, header_known}
 use Rattle.datagram.proofs.decode.Decoded.accepted.Statement.{statement}
 use Rattle.datagram.proofs.decode.Decoded.accepted.Tie as tie
 
-pub accepted-spec : {M : Type 1} → statement M
-accepted-spec =
+pub accepted_spec : {M : Type 1} → statement M
+accepted_spec =
     tie.close
     (tie.spec
     (λ c κs. search (inside_start, within_then, rules))  -- version-at-requires

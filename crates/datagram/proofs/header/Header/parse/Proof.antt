@@ -3,9 +3,9 @@ use Rattle.layout.proofs.Chain.{steps, places, rows}
 use Rattle.datagram.proofs.header.Header.parse.Statement.{statement}
 use Rattle.datagram.proofs.header.Header.parse.Tie as tie
 
-pub parse-spec : {M : Type 1} → statement M
+pub parse_spec : {M : Type 1} → statement M
 unfolding layout_of
-parse-spec =
+parse_spec =
     tie.close
     (tie.spec
     (λ c κs. search steps)  -- version-requires

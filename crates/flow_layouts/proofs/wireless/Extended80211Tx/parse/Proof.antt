@@ -5,9 +5,9 @@ use Rattle.layout.proofs.Chain.{steps, places, rows}
 use Rattle.flow_layouts.proofs.wireless.Extended80211Tx.parse.Statement.{statement}
 use Rattle.flow_layouts.proofs.wireless.Extended80211Tx.parse.Tie as tie
 
-pub parse-spec : {M : Type 1} → statement M
+pub parse_spec : {M : Type 1} → statement M
 unfolding layout_of flows
-parse-spec =
+parse_spec =
     tie.close
     (tie.spec
     (λ c κs. search steps)  -- parse-requires

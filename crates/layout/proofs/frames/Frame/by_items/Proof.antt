@@ -3,8 +3,8 @@ use Rattle.layout.proofs.Scan.{frame_cut, frame_short, frame_got}
 use Rattle.layout.proofs.frames.Frame.by_items.Statement.{statement}
 use Rattle.layout.proofs.frames.Frame.by_items.Tie as tie
 
-pub by-items-spec : {M : Type 1} → statement M
-by-items-spec =
+pub by_items_spec : {M : Type 1} → statement M
+by_items_spec =
     tie.close
     (tie.spec
     (λ c κs. search (frame_cut, frame_short, frame_got, inner))  -- read-u32-requires

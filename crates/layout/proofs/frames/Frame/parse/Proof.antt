@@ -3,8 +3,8 @@ use Rattle.layout.proofs.frames.Frame.parse.Statement.{statement}
 use Rattle.layout.proofs.frames.Frame.parse.Tie as tie
 use Rattle.layout.proofs.Scan.{frame_long, frame_over, frame_there}
 
-pub parse-spec : {M : Type 1} → statement M
-parse-spec =
+pub parse_spec : {M : Type 1} → statement M
+parse_spec =
     tie.close
     (tie.spec
     (λ c. search rules)  -- add-start

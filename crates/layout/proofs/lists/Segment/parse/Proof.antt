@@ -2,8 +2,8 @@ use Rattle.layout.proofs.Chain.{steps, rows}
 use Rattle.layout.proofs.lists.Segment.parse.Statement.{statement}
 use Rattle.layout.proofs.lists.Segment.parse.Tie as tie
 
-pub parse-spec : {M : Type 1} → statement M
-parse-spec =
+pub parse_spec : {M : Type 1} → statement M
+parse_spec =
     tie.close
     (tie.spec
     (λ c κs. search steps)  -- word-requires

@@ -2,8 +2,8 @@ use Rattle.layout.proofs.Chain.{passing}
 use Rattle.layout.proofs.pass.Row.list.Statement.{statement}
 use Rattle.layout.proofs.pass.Row.list.Tie as tie
 
-pub list-spec : {M : Type 1} → statement M
-list-spec = tie.close (tie.spec
+pub list_spec : {M : Type 1} → statement M
+list_spec = tie.close (tie.spec
     (λ c κs. search passing)  -- range-requires
     (λ c. search passing)  -- returns
     )

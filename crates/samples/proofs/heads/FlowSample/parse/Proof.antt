@@ -5,9 +5,9 @@ use Rattle.layout.proofs.Chain.{steps, places, rows}
 use Rattle.samples.proofs.heads.FlowSample.parse.Statement.{statement}
 use Rattle.samples.proofs.heads.FlowSample.parse.Tie as tie
 
-pub parse-spec : {M : Type 1} → statement M
+pub parse_spec : {M : Type 1} → statement M
 unfolding layout_of samples
-parse-spec =
+parse_spec =
     tie.close
     (tie.spec
     (λ c κs. search steps)  -- words-requires
