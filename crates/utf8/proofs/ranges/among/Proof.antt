@@ -8,6 +8,6 @@ pub among_spec : {M : Type 1} → statement M
 among_spec =
     tie.close
     (tie.spec
-    (λ c. sym (among_below _ _ _ c.if1.taken))  -- returns
-    (λ c. among_from _ _ _ c.if1.left)  -- returns-2
+    (λ c. sym (among_below _ _ _ c.if-b-lo.true))  -- returns
+    (λ c. among_from _ _ _ c.if-b-lo.false)  -- returns-2
     )
