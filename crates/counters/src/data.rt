@@ -10,11 +10,11 @@ use crate::widths;
 use xdr::{Cursor, Passed};
 
 // The bytes of a layout, and its items.
-#[derive(Drop)]
+#[derive(Clone, Copy)]
 pub struct Extent(pub usize, pub usize);
 
 // A layout that was passed, by where it begins.
-#[derive(Drop)]
+#[derive(Clone, Copy)]
 pub struct FixedAt {
     pub passed: Passed,
     pub at: usize,

@@ -17,7 +17,7 @@ use xdr::{Outcome, Passed};
 
 // Format 1: the counters of any interface, by RFC 2233.
 #[repr(C)]
-#[derive(Drop)]
+#[derive(Clone, Copy)]
 pub struct GenericInterfaceCounters {
     pub outcome: Outcome,
     pub if_index: u32,
@@ -115,7 +115,7 @@ impl GenericInterfaceCounters {
 
 // Format 2: the counters of an Ethernet interface, by RFC 2358.
 #[repr(C)]
-#[derive(Drop)]
+#[derive(Clone, Copy)]
 pub struct EthernetInterfaceCounters {
     pub outcome: Outcome,
     pub dot3_stats_alignment_errors: u32,
@@ -195,7 +195,7 @@ impl EthernetInterfaceCounters {
 
 // Format 3: the counters of a token ring interface, by RFC 1748.
 #[repr(C)]
-#[derive(Drop)]
+#[derive(Clone, Copy)]
 pub struct TokenRingCounters {
     pub outcome: Outcome,
     pub dot5_stats_line_errors: u32,
@@ -290,7 +290,7 @@ impl TokenRingCounters {
 
 // Format 4: the counters of a 100BaseVG interface, by RFC 2020.
 #[repr(C)]
-#[derive(Drop)]
+#[derive(Clone, Copy)]
 pub struct Vg100InterfaceCounters {
     pub outcome: Outcome,
     pub dot12_in_high_priority_frames: u32,
@@ -373,7 +373,7 @@ impl Vg100InterfaceCounters {
 
 // Format 5: the counters of a VLAN.
 #[repr(C)]
-#[derive(Drop)]
+#[derive(Clone, Copy)]
 pub struct VlanCounters {
     pub outcome: Outcome,
     pub vlan_id: u32,
@@ -432,7 +432,7 @@ impl VlanCounters {
 
 // Format 1001: the load of the processor, and its memory.
 #[repr(C)]
-#[derive(Drop)]
+#[derive(Clone, Copy)]
 pub struct ProcessorCounters {
     pub outcome: Outcome,
     pub cpu_5s: u32,

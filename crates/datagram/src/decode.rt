@@ -14,7 +14,7 @@ use xdr::{Address, Cursor, MAX_INPUT_SIZE, Passed};
 
 // What a call answers: its code (docs/RULES.md, 5), the position, the steps, and the descriptors needed.
 #[repr(C)]
-#[derive(Drop)]
+#[derive(Clone, Copy)]
 pub struct Answer {
     pub code: u32,
     pub at: usize,
@@ -24,7 +24,7 @@ pub struct Answer {
 
 // The answer to one datagram, with its header; that is all zero on a refusal.
 #[repr(C)]
-#[derive(Drop)]
+#[derive(Clone, Copy)]
 pub struct Decoded {
     pub answer: Answer,
     pub agent_address: Address,

@@ -15,7 +15,7 @@ use xdr::{Address, Cursor, Outcome, Passed, Word};
 
 // The header's fields; all zero on a refusal.
 #[repr(C)]
-#[derive(Drop)]
+#[derive(Clone, Copy)]
 pub struct Header {
     pub outcome: Outcome,
     pub version: u32,

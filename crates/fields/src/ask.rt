@@ -6,7 +6,7 @@ use crate::descriptor::{Words, descriptor};
 use xdr::{Cursor, MAX_INPUT_SIZE, Outcome, Passed};
 
 // Where to read from, and where the range ends; or a refusal, and an empty range.
-#[derive(Drop)]
+#[derive(Clone, Copy)]
 pub struct Asked {
     pub passed: Passed,
     pub end: usize,

@@ -12,7 +12,7 @@ use xdr::{Cursor, MAX_INPUT_SIZE, Passed, Span};
 
 // A word of a list, if there is one.
 #[repr(C)]
-#[derive(Drop)]
+#[derive(Clone, Copy)]
 pub struct Listed {
     pub present: bool,
     pub value: u32,

@@ -15,7 +15,7 @@ use xdr::{Address, Outcome, Passed, Span};
 
 // Format 1001: the VLANs and priorities of a switched packet.
 #[repr(C)]
-#[derive(Drop)]
+#[derive(Clone, Copy)]
 pub struct ExtendedSwitch {
     pub outcome: Outcome,
     pub src_vlan: u32,
@@ -55,7 +55,7 @@ impl ExtendedSwitch {
 
 // Format 1002: the next hop of a routed packet, and the masks of its ends.
 #[repr(C)]
-#[derive(Drop)]
+#[derive(Clone, Copy)]
 pub struct ExtendedRouter {
     pub outcome: Outcome,
     pub next_hop: Address,
@@ -98,7 +98,7 @@ impl ExtendedRouter {
 
 // Format 1003: the BGP route of a packet.
 #[repr(C)]
-#[derive(Drop)]
+#[derive(Clone, Copy)]
 pub struct ExtendedGateway {
     pub outcome: Outcome,
     pub next_hop: Address,
@@ -164,7 +164,7 @@ impl ExtendedGateway {
 
 // Format 1004: the users at both ends of a packet.
 #[repr(C)]
-#[derive(Drop)]
+#[derive(Clone, Copy)]
 pub struct ExtendedUser {
     pub outcome: Outcome,
     pub src_charset: u32,
@@ -211,7 +211,7 @@ impl ExtendedUser {
 
 // Format 1005: an HTTP request; direction 1 is the source's, 2 the destination's.
 #[repr(C)]
-#[derive(Drop)]
+#[derive(Clone, Copy)]
 pub struct ExtendedUrl {
     pub outcome: Outcome,
     pub direction: u32,
@@ -252,7 +252,7 @@ impl ExtendedUrl {
 
 // Format 1007: a packet's addresses behind a translation.
 #[repr(C)]
-#[derive(Drop)]
+#[derive(Clone, Copy)]
 pub struct ExtendedNat {
     pub outcome: Outcome,
     pub src_address: Address,
@@ -293,7 +293,7 @@ impl ExtendedNat {
 
 // Format 1012: the VLAN tags that were taken off, each with its TPID above its TCI.
 #[repr(C)]
-#[derive(Drop)]
+#[derive(Clone, Copy)]
 pub struct ExtendedVlanTunnel {
     pub outcome: Outcome,
     pub stack: Span,

@@ -12,7 +12,7 @@ use xdr::{Address, Outcome, Passed, Span};
 
 // Format 1006: the MPLS label stacks of a packet.
 #[repr(C)]
-#[derive(Drop)]
+#[derive(Clone, Copy)]
 pub struct ExtendedMpls {
     pub outcome: Outcome,
     pub next_hop: Address,
@@ -56,7 +56,7 @@ impl ExtendedMpls {
 
 // Format 1008: the MPLS tunnel.
 #[repr(C)]
-#[derive(Drop)]
+#[derive(Clone, Copy)]
 pub struct ExtendedMplsTunnel {
     pub outcome: Outcome,
     pub tunnel_lsp_name: Span,
@@ -96,7 +96,7 @@ impl ExtendedMplsTunnel {
 
 // Format 1009: the MPLS virtual circuit.
 #[repr(C)]
-#[derive(Drop)]
+#[derive(Clone, Copy)]
 pub struct ExtendedMplsVc {
     pub outcome: Outcome,
     pub vc_instance_name: Span,
@@ -139,7 +139,7 @@ impl ExtendedMplsVc {
 
 // Format 1010: the forwarding equivalence class, as an address prefix.
 #[repr(C)]
-#[derive(Drop)]
+#[derive(Clone, Copy)]
 pub struct ExtendedMplsFec {
     pub outcome: Outcome,
     pub fec_addr_prefix: Address,
@@ -177,7 +177,7 @@ impl ExtendedMplsFec {
 
 // Format 1011: the forwarding equivalence class, as a prefix length.
 #[repr(C)]
-#[derive(Drop)]
+#[derive(Clone, Copy)]
 pub struct ExtendedMplsLvpFec {
     pub outcome: Outcome,
     pub mpls_fec_addr_prefix_length: u32,

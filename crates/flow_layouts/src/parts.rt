@@ -8,7 +8,7 @@ use layout::field;
 use layout::field::{Counted, Mode};
 use xdr::{Passed, Span};
 
-#[derive(Drop)]
+#[derive(Clone, Copy)]
 pub struct Route {
     pub passed: Passed,
     pub dst_as_path: Span,
@@ -39,7 +39,7 @@ impl Route {
 }
 
 // A network and its station.
-#[derive(Drop)]
+#[derive(Clone, Copy)]
 pub struct Network {
     pub passed: Passed,
     pub ssid: Span,

@@ -15,7 +15,7 @@ use xdr::{Outcome, Passed, Span};
 
 // Format 1: the packet's first bytes, by the protocol of its header.
 #[repr(C)]
-#[derive(Drop)]
+#[derive(Clone, Copy)]
 pub struct SampledHeader {
     pub outcome: Outcome,
     pub protocol: u32,
@@ -61,7 +61,7 @@ impl SampledHeader {
 
 // Format 2: an Ethernet frame.
 #[repr(C)]
-#[derive(Drop)]
+#[derive(Clone, Copy)]
 pub struct SampledEthernet {
     pub outcome: Outcome,
     pub length: u32,
@@ -108,7 +108,7 @@ impl SampledEthernet {
 
 // Format 3: an IPv4 packet. An address is its four bytes as one number, the first of them uppermost.
 #[repr(C)]
-#[derive(Drop)]
+#[derive(Clone, Copy)]
 pub struct SampledIpv4 {
     pub outcome: Outcome,
     pub length: u32,
@@ -160,7 +160,7 @@ impl SampledIpv4 {
 
 // Format 4: an IPv6 packet.
 #[repr(C)]
-#[derive(Drop)]
+#[derive(Clone, Copy)]
 pub struct SampledIpv6 {
     pub outcome: Outcome,
     pub length: u32,

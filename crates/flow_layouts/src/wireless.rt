@@ -15,7 +15,7 @@ use xdr::{Outcome, Passed, Span};
 
 // Format 1013: an 802.11 payload before it was encrypted.
 #[repr(C)]
-#[derive(Drop)]
+#[derive(Clone, Copy)]
 pub struct Extended80211Payload {
     pub outcome: Outcome,
     pub cipher_suite: u32,
@@ -50,7 +50,7 @@ impl Extended80211Payload {
 
 // Format 1014: how an 802.11 packet was received.
 #[repr(C)]
-#[derive(Drop)]
+#[derive(Clone, Copy)]
 pub struct Extended80211Rx {
     pub outcome: Outcome,
     pub ssid: Span,
@@ -118,7 +118,7 @@ impl Extended80211Rx {
 
 // Format 1015: how an 802.11 packet was sent.
 #[repr(C)]
-#[derive(Drop)]
+#[derive(Clone, Copy)]
 pub struct Extended80211Tx {
     pub outcome: Outcome,
     pub ssid: Span,
@@ -189,7 +189,7 @@ impl Extended80211Tx {
 
 // Format 1016: an 802.11 aggregation: how many PDUs follow. They and their records have descriptors of their own.
 #[repr(C)]
-#[derive(Drop)]
+#[derive(Clone, Copy)]
 pub struct Extended80211Aggregation {
     pub outcome: Outcome,
     pub pdu_count: u32,

@@ -14,7 +14,7 @@ use numbers::DataFormat;
 use store::{DESCRIPTOR_WORDS, Descriptor, Pen, Written, index_at, put, put_frame};
 
 // Where flat records end: the next byte, the word where the next descriptor begins, and the records that are left.
-#[derive(Drop)]
+#[derive(Clone, Copy)]
 pub struct Flat {
     pub at: usize,
     pub word: usize,

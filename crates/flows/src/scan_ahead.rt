@@ -12,7 +12,7 @@ use load;
 use xdr::{Cursor, Passed};
 
 // Where it has come to: the records that are left, and the descriptors so far.
-#[derive(Drop)]
+#[derive(Clone, Copy)]
 pub struct Ahead {
     pub cursor: Cursor,
     pub rest: u32,

@@ -12,39 +12,39 @@ use load;
 use xdr::{Address, Addressed, Block, Cursor, Long, Part, Passed, Span, Width, Word};
 
 // How the addresses of a sampled Ethernet record stand: padded to a multiple of four, as the memo has them, or bare, as the crate reads them.
-#[derive(Drop)]
+#[derive(Clone, Copy)]
 pub enum Mode {
     Memo,
     Base,
 }
 
-#[derive(Drop)]
+#[derive(Clone, Copy)]
 pub struct Number {
     pub passed: Passed,
     pub value: u32,
 }
 
-#[derive(Drop)]
+#[derive(Clone, Copy)]
 pub struct Wide {
     pub passed: Passed,
     pub value: u64,
 }
 
 // A row of words, by where it begins.
-#[derive(Drop)]
+#[derive(Clone, Copy)]
 pub struct WordsAt {
     pub passed: Passed,
     pub at: usize,
 }
 
-#[derive(Drop)]
+#[derive(Clone, Copy)]
 pub struct Mac {
     pub passed: Passed,
     pub bytes: [u8; 6],
 }
 
 // What is counted, and answered by where it lies.
-#[derive(Drop)]
+#[derive(Clone, Copy)]
 pub enum Counted {
     List,
     Segments,

@@ -9,14 +9,14 @@ use load;
 use xdr::{Cursor, MAX_OPAQUE_SIZE, Outcome, Part, Span, Word};
 
 // The format, where the payload lies, and the cursor behind the pad.
-#[derive(Drop)]
+#[derive(Clone, Copy)]
 pub enum Frame {
     Got(u32, Span, Cursor),
     Stop(Outcome),
 }
 
 // All is well up to the cursor, with so many descriptors; or it is not.
-#[derive(Drop)]
+#[derive(Clone, Copy)]
 pub enum Scanned {
     Got(Cursor, usize),
     Stop(Outcome),

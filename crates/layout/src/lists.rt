@@ -12,7 +12,7 @@ use crate::field;
 use xdr::{Cursor, Outcome, Passed, Span, Word};
 
 // Where something lies: for what is counted the first of it, and how many. Zero on a refusal.
-#[derive(Drop)]
+#[derive(Clone, Copy)]
 pub struct Ranged {
     pub passed: Passed,
     pub span: Span,
@@ -59,7 +59,7 @@ fn list_behind(p: Passed, s: &[u8]) -> Ranged
 
 // A segment of an AS path: its type, and where its AS numbers lie.
 #[repr(C)]
-#[derive(Drop)]
+#[derive(Clone, Copy)]
 pub struct Segment {
     pub outcome: Outcome,
     pub kind: u32,

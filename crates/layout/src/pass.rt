@@ -11,7 +11,7 @@ use strings;
 use xdr::{Cursor, Part, Passed};
 
 // How far it was passed.
-#[derive(Drop)]
+#[derive(Clone, Copy)]
 pub struct Row {
     pub passed: Passed,
 }

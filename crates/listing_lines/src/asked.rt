@@ -2,7 +2,7 @@
 use layout::field::Mode;
 use os;
 
-#[derive(Drop)]
+#[derive(Clone, Copy)]
 pub enum Asked {
     In(Mode),
     Unknown,

@@ -4,17 +4,17 @@ ghost use Rattle.numbers.specs.Split.{upper, lower, join};
 
 // What an opaque structure holds: the enterprise in the upper 20 bits, its format in the lower 12.
 #[repr(C)]
-#[derive(Drop)]
+#[derive(Clone, Copy)]
 pub struct DataFormat(pub u32);
 
 // Where the data comes from: the type of source in the upper 8 bits, its index in the lower 24.
 #[repr(C)]
-#[derive(Drop)]
+#[derive(Clone, Copy)]
 pub struct DataSource(pub u32);
 
 // An interface: the format in the upper 2 bits, and in the lower 30 the value that the format gives a meaning.
 #[repr(C)]
-#[derive(Drop)]
+#[derive(Clone, Copy)]
 pub struct Interface(pub u32);
 
 impl DataFormat {

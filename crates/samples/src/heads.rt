@@ -15,7 +15,7 @@ use xdr::{Outcome, Passed};
 
 // Format 1: a packet sampled from a source.
 #[repr(C)]
-#[derive(Drop)]
+#[derive(Clone, Copy)]
 pub struct FlowSample {
     pub outcome: Outcome,
     pub sequence_number: u32,
@@ -67,7 +67,7 @@ impl FlowSample {
 
 // Format 2: counters of a source.
 #[repr(C)]
-#[derive(Drop)]
+#[derive(Clone, Copy)]
 pub struct CountersSample {
     pub outcome: Outcome,
     pub sequence_number: u32,
@@ -104,7 +104,7 @@ impl CountersSample {
 
 // Format 3: as 1, with two words each for the source and the interfaces.
 #[repr(C)]
-#[derive(Drop)]
+#[derive(Clone, Copy)]
 pub struct FlowSampleExpanded {
     pub outcome: Outcome,
     pub sequence_number: u32,
@@ -180,7 +180,7 @@ impl FlowSampleExpanded {
 
 // Format 4: as 2, with two words for the source.
 #[repr(C)]
-#[derive(Drop)]
+#[derive(Clone, Copy)]
 pub struct CountersSampleExpanded {
     pub outcome: Outcome,
     pub sequence_number: u32,
@@ -223,7 +223,7 @@ impl CountersSampleExpanded {
 
 // Format 5: a packet that was discarded, and why.
 #[repr(C)]
-#[derive(Drop)]
+#[derive(Clone, Copy)]
 pub struct DiscardedPacket {
     pub outcome: Outcome,
     pub sequence_number: u32,

@@ -3,7 +3,7 @@
 ghost use Rattle.samples.specs.Held.{IsKind};
 
 // What a sample holds: so many words, of which the last counts the records behind them; or it stays raw.
-#[derive(Drop)]
+#[derive(Clone, Copy)]
 pub enum SampleKind {
     Flows(u32),
     Counters(u32),
@@ -33,7 +33,7 @@ pub fn kind_of(format: u32) -> SampleKind
 
 // A source whose type and index have a word each.
 #[repr(C)]
-#[derive(Drop)]
+#[derive(Clone, Copy)]
 pub struct DataSourceExpanded {
     pub source_id_type: u32,
     pub source_id_index: u32,
@@ -41,7 +41,7 @@ pub struct DataSourceExpanded {
 
 // An interface whose format and value have a word each.
 #[repr(C)]
-#[derive(Drop)]
+#[derive(Clone, Copy)]
 pub struct InterfaceExpanded {
     pub format: u32,
     pub value: u32,

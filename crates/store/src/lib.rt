@@ -9,7 +9,7 @@ use load;
 use numbers::DataFormat;
 
 // Where descriptors go: the index of this part's first, the parent's index, and the word of this part where the next one begins.
-#[derive(Drop)]
+#[derive(Clone, Copy)]
 pub struct Pen {
     pub base: u32,
     pub parent: u32,
@@ -17,14 +17,14 @@ pub struct Pen {
 }
 
 // Where a pass has come to: the next byte, and the word where the next descriptor begins.
-#[derive(Drop)]
+#[derive(Clone, Copy)]
 pub struct Written {
     pub at: usize,
     pub word: usize,
 }
 
 // A descriptor, word for word.
-#[derive(Drop)]
+#[derive(Clone, Copy)]
 pub struct Descriptor {
     pub kind: u32,
     pub format: DataFormat,

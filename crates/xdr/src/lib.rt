@@ -14,7 +14,7 @@ pub const MAX_INPUT_SIZE: usize = 16777216;
 pub const MAX_OPAQUE_SIZE: u32 = 104857600;
 
 // Where a reading stands: the next byte, counted from the input's first, and the items read so far.
-#[derive(Drop)]
+#[derive(Clone, Copy)]
 pub struct Cursor {
     pub at: usize,
     pub steps: usize,
@@ -22,7 +22,7 @@ pub struct Cursor {
 
 // How a reading ends: its code (docs/RULES.md, 5), the position, and the items read. Code 0 is no refusal.
 #[repr(C)]
-#[derive(Drop)]
+#[derive(Clone, Copy)]
 pub struct Outcome {
     pub code: u32,
     pub at: usize,
@@ -31,47 +31,47 @@ pub struct Outcome {
 
 // A range of the input.
 #[repr(C)]
-#[derive(Drop)]
+#[derive(Clone, Copy)]
 pub struct Span {
     pub start: usize,
     pub count: usize,
 }
 
 // A u32 with the cursor behind it, or a refusal; the other items answer likewise.
-#[derive(Drop)]
+#[derive(Clone, Copy)]
 pub enum Word {
     Got(u32, Cursor),
     Stop(Outcome),
 }
 
-#[derive(Drop)]
+#[derive(Clone, Copy)]
 pub enum Long {
     Got(u64, Cursor),
     Stop(Outcome),
 }
 
-#[derive(Drop)]
+#[derive(Clone, Copy)]
 pub enum Int {
     Got(i32, Cursor),
     Stop(Outcome),
 }
 
 // Where an opaque or a string has its bytes.
-#[derive(Drop)]
+#[derive(Clone, Copy)]
 pub enum Part {
     Got(Span, Cursor),
     Stop(Outcome),
 }
 
 // What was read is passed, and its value is not in the answer.
-#[derive(Drop)]
+#[derive(Clone, Copy)]
 pub enum Passed {
     Got(Cursor),
     Stop(Outcome),
 }
 
 // How many bytes a fixed block has.
-#[derive(Drop)]
+#[derive(Clone, Copy)]
 pub enum Width {
     Four,
     Six,
@@ -80,7 +80,7 @@ pub enum Width {
 }
 
 // A fixed block: its bytes, and zero behind them; all zero on a refusal. An enum holds no array, so they stand beside the answer.
-#[derive(Drop)]
+#[derive(Clone, Copy)]
 pub struct Block {
     pub passed: Passed,
     pub bytes: [u8; 16],
@@ -88,14 +88,14 @@ pub struct Block {
 
 // An address: its type, and sixteen bytes of which type 1 uses the first four; unused ones are zero.
 #[repr(C)]
-#[derive(Drop)]
+#[derive(Clone, Copy)]
 pub struct Address {
     pub kind: u32,
     pub bytes: [u8; 16],
 }
 
 // All zero on a refusal.
-#[derive(Drop)]
+#[derive(Clone, Copy)]
 pub struct Addressed {
     pub passed: Passed,
     pub address: Address,

@@ -10,11 +10,11 @@ use Rattle.strings.proofs.Skips.{skip_room, skip_same, char_room, char_fits, wal
 use Rattle.strings.proofs.well_formed.Statement.{statement}
 use Rattle.strings.proofs.well_formed.Tie as tie
 
-abbrev invariant-loop : tie.invariant-loop
-invariant-loop s at₀ at = (at ≤ length s) × (ends s at ≡ well_formed_of s)
+abbrev invariant-loop-at : tie.invariant-loop-at
+invariant-loop-at s at₀ at = (at ≤ length s) × (ends s at ≡ well_formed_of s)
 
-abbrev decreases-loop : tie.decreases-loop
-decreases-loop s at₀ at = length s - at
+abbrev decreases-loop-at : tie.decreases-loop-at
+decreases-loop-at s at₀ at = length s - at
 
 ruleset walking = (all_passed, sequence_passed, none_there, skip_room, skip_same, char_room, char_fits, walk_less, rules)
 
@@ -22,8 +22,8 @@ pub well_formed_spec : {M : Type 1} → statement M
 well_formed_spec =
     tie.close
     (tie.spec
-    invariant-loop
-    decreases-loop
+    invariant-loop-at
+    decreases-loop-at
     (λ c κs. search walking)  -- short-requires
     (λ c. search walking)  -- loop-holds
     (λ c κs. search walking)  -- past-requires

@@ -4,18 +4,18 @@ use Rattle.strings.proofs.Skips.{begins_here, begins_first}
 use Rattle.strings.proofs.skip.back.Statement.{statement}
 use Rattle.strings.proofs.skip.back.Tie as tie
 
-abbrev invariant-loop : tie.invariant-loop
-invariant-loop s low high i₀ i = (low ≤ i) × (i < high)
+abbrev invariant-loop-i : tie.invariant-loop-i
+invariant-loop-i s low high i₀ i = (low ≤ i) × (i < high)
 
-abbrev decreases-loop : tie.decreases-loop
-decreases-loop s low high i₀ i = i
+abbrev decreases-loop-i : tie.decreases-loop-i
+decreases-loop-i s low high i₀ i = i
 
 pub back_spec : {M : Type 1} → statement M
 back_spec =
     tie.close
     (tie.spec
-    invariant-loop
-    decreases-loop
+    invariant-loop-i
+    decreases-loop-i
     (λ c. search rules)  -- sub-i utf8.rt:232:17
     (λ c. search rules)  -- loop-holds utf8.rt:233:5
     (λ c. search rules)  -- shared-slice-read-tail utf8.rt:234:17

@@ -53,5 +53,5 @@ eight_spec =
     let w3 = w4.before.before in
     let w2 = w3.before.before in
     let w1 = w2.before.before in
-    first_read _ _ 7 (more_read _ _ 6 1 (more_read _ _ 5 2 (more_read _ _ 4 3 (more_read _ _ 3 4 (more_read _ _ 2 5 (more_read _ _ 1 6 (last_read _ _ 7 c.wide8.ensures) w7.wide7.ensures) w6.wide6.ensures) w5.wide5.ensures) w4.wide4.ensures) w3.wide3.ensures) w2.wide2.ensures) w1.wide.ensures)  -- returns
+    first_read _ _ 7 (more_read _ _ 6 1 (more_read _ _ 5 2 (more_read _ _ 4 3 (more_read _ _ 3 4 (more_read _ _ 2 5 (more_read _ _ 1 6 (last_read _ _ 7 c.wide-h.ensures) w7.wide-g.ensures) w6.wide-f.ensures) w5.wide-e.ensures) w4.wide-d.ensures) w3.wide-c.ensures) w2.wide-b.ensures) w1.wide-a.ensures)  -- returns
     )

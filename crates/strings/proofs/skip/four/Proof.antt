@@ -29,5 +29,5 @@ four_spec =
     let w3 = c.before.before in
     let w2 = w3.before.before in
     let w1 = w2.before.before in
-    first_read _ _ 3 (more_read _ _ 2 1 (more_read _ _ 1 2 (last_read _ _ 3 c.wide4.ensures) w3.wide3.ensures) w2.wide2.ensures) w1.wide.ensures)  -- returns
+    first_read _ _ 3 (more_read _ _ 2 1 (more_read _ _ 1 2 (last_read _ _ 3 c.wide-d.ensures) w3.wide-c.ensures) w2.wide-b.ensures) w1.wide-a.ensures)  -- returns
     )

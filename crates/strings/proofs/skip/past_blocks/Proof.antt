@@ -11,18 +11,18 @@ use Rattle.strings.proofs.Whole.{blocks_on, blocks_none}
 use Rattle.strings.proofs.skip.past_blocks.Statement.{statement}
 use Rattle.strings.proofs.skip.past_blocks.Tie as tie
 
-abbrev invariant-loop : tie.invariant-loop
-invariant-loop s at n i₀ i = (i ≤ length s) × (i + plain (drop i s) / n * n ≡ at + plain (drop at s) / n * n)
+abbrev invariant-loop-i : tie.invariant-loop-i
+invariant-loop-i s at n i₀ i = (i ≤ length s) × (i + plain (drop i s) / n * n ≡ at + plain (drop at s) / n * n)
 
-abbrev decreases-loop : tie.decreases-loop
-decreases-loop s at n i₀ i = length s - i
+abbrev decreases-loop-i : tie.decreases-loop-i
+decreases-loop-i s at n i₀ i = length s - i
 
 pub past_blocks_spec : {M : Type 1} → statement M
 past_blocks_spec =
     tie.close
     (tie.spec
-    invariant-loop
-    decreases-loop
+    invariant-loop-i
+    decreases-loop-i
     (λ c. search rules)  -- loop-holds
     (λ c. search rules)  -- add-loop
     (λ c κs. search rules)  -- block-requires
@@ -32,19 +32,19 @@ past_blocks_spec =
     let p = c.before.before.before in
     let s = p.before.before.args.s.now in
     let n = p.before.before.args.n in
-    let h : n ≤ plain (drop p.loop.i s) = leb-true n (plain (drop p.loop.i s)) (sym c.before.block.ensures ∙ c.if1.true) in
-    let a = plain_past s p.loop.i n h in
-    omega (arith, blocks_on n (plain (drop p.loop.i s)) (plain (drop (p.loop.i + n) s)) (search rules) a))  -- loop-again
+    let h : n ≤ plain (drop p.loop-i.i s) = leb-true n (plain (drop p.loop-i.i s)) (sym c.before.block.ensures ∙ c.if-block.true) in
+    let a = plain_past s p.loop-i.i n h in
+    omega (arith, blocks_on n (plain (drop p.loop-i.i s)) (plain (drop (p.loop-i.i + n) s)) (search rules) a))  -- loop-again
     (λ c.
     let p = c.before.before.before in
     let s = p.before.before.args.s.now in
     let n = p.before.before.args.n in
-    let h = leb-false n (plain (drop p.loop.i s)) (sym c.before.block.ensures ∙ c.if1.false) in
-    omega (arith, blocks_none n (plain (drop p.loop.i s)) h))  -- returns
+    let h = leb-false n (plain (drop p.loop-i.i s)) (sym c.before.block.ensures ∙ c.if-block.false) in
+    omega (arith, blocks_none n (plain (drop p.loop-i.i s)) h))  -- returns
     (λ c.
     let p = c.before in
     let s = p.before.before.args.s.now in
     let n = p.before.before.args.n in
-    let h = plain_room s p.loop.i in
-    omega (arith, blocks_none n (plain (drop p.loop.i s)) (omega arith)))  -- returns-2
+    let h = plain_room s p.loop-i.i in
+    omega (arith, blocks_none n (plain (drop p.loop-i.i s)) (omega arith)))  -- returns-2
     )

@@ -18,7 +18,7 @@ past_run_spec =
     (λ c κs. search blocks)  -- past-blocks-requires
     (λ c κs. search blocks)  -- past-blocks-requires-2
     (λ c κs. search blocks)  -- last-eight-requires
-    (λ c. let p = c.before.before in blocks_then _ _ 64 p.before.past-blocks.ensures (blocks_then _ _ 8 p.past-blocks2.ensures (last_rest 8 _ _ c.before.last-eight.ensures c.if3.true (search blocks))))  -- returns-2
+    (λ c. let p = c.before.before in blocks_then _ _ 64 p.before.past_blocks.ensures (blocks_then _ _ 8 p.past_blocks-i.ensures (last_rest 8 _ _ c.before.last_eight.ensures c.if-last_eight.true (search blocks))))  -- returns-2
     (λ c κs. search blocks)  -- past-bytes-requires
     (λ c. search blocks)  -- returns-3
     (λ c. search blocks)  -- returns-4

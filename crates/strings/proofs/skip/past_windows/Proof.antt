@@ -10,18 +10,18 @@ use Rattle.strings.proofs.Skips.{same_place, no_tail, window_turn}
 use Rattle.strings.proofs.skip.past_windows.Statement.{statement}
 use Rattle.strings.proofs.skip.past_windows.Tie as tie
 
-abbrev invariant-loop : tie.invariant-loop
-invariant-loop s at n i₀ i = (3 ≤ i) × (tail (get_or s i 0) ≡ false) × Skips s at i
+abbrev invariant-loop-i : tie.invariant-loop-i
+invariant-loop-i s at n i₀ i = (3 ≤ i) × (tail (get_or s i 0) ≡ false) × Skips s at i
 
-abbrev decreases-loop : tie.decreases-loop
-decreases-loop s at n i₀ i = length s - i
+abbrev decreases-loop-i : tie.decreases-loop-i
+decreases-loop-i s at n i₀ i = length s - i
 
 pub past_windows_spec : {M : Type 1} → statement M
 past_windows_spec =
     tie.close
     (tie.spec
-    invariant-loop
-    decreases-loop
+    invariant-loop-i
+    decreases-loop-i
     (λ c. search (same_place, no_tail, rules))  -- returns
     (λ c. search rules)  -- sub-if2
     (λ c. search (same_place, no_tail, rules))  -- returns-2
@@ -37,7 +37,7 @@ past_windows_spec =
     (λ c. search (same_place, no_tail, rules))  -- loop-less
     (λ c.
     let p = c.before.before.before.before.before in
-    window_turn _ _ _ _ _ p.loop.invariant.2 p.loop.invariant.1 c.before.before.before.window.ensures c.before.before.if4.true p.loop.invariant.0 (omega arith) c.before.back.ensures (omega arith))  -- loop-again
+    window_turn _ _ _ _ _ p.loop-i.invariant.2 p.loop-i.invariant.1 c.before.before.before.window.ensures c.before.before.if-window.true p.loop-i.invariant.0 (omega arith) c.before.back-j.ensures (omega arith))  -- loop-again
     (λ c. search (same_place, no_tail, rules))  -- returns-5
     (λ c. search (same_place, no_tail, rules))  -- returns-6
     )
