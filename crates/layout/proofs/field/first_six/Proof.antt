@@ -13,5 +13,5 @@ first_six_spec =
     (λ c. search rules)  -- array-read-t14
     (λ c. search rules)  -- array-read-t17
     (λ c. search rules)  -- array-read-t20
-    (λ c. first_six c.args.t1 (search rules))  -- returns
+    (λ c. first_six c.args.b (search rules))  -- returns
     )

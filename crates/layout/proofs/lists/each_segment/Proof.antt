@@ -7,18 +7,18 @@ use Rattle.layout.proofs.Counts.{counts}
 use Rattle.layout.proofs.lists.each_segment.Statement.{statement}
 use Rattle.layout.proofs.lists.each_segment.Tie as tie
 
-abbrev invariant-loop : tie.invariant-loop
-invariant-loop s n cur₀ left₀ cur left = Inside s cur × (times left (follow segment) s (place cur) ≡ times n (follow segment) s (place cur₀))
+abbrev invariant-loop-left : tie.invariant-loop-left
+invariant-loop-left s n cur₀ left₀ cur left = Inside s cur × (times left (follow segment) s (place cur) ≡ times n (follow segment) s (place cur₀))
 
-abbrev decreases-loop : tie.decreases-loop
-decreases-loop s n cur₀ left₀ cur left = left
+abbrev decreases-loop-left : tie.decreases-loop-left
+decreases-loop-left s n cur₀ left₀ cur left = left
 
 pub each_segment_spec : {M : Type 1} → statement M
 each_segment_spec =
     tie.close
     (tie.spec
-    invariant-loop
-    decreases-loop
+    invariant-loop-left
+    decreases-loop-left
     (λ c. search counts)  -- loop-holds
     (λ c κs. search counts)  -- segment-requires
     (λ c. search counts)  -- enum-known-r
