@@ -33,16 +33,16 @@ abbrev μ-put-flow-records : Measures 2 put-flow-records-kinds.ps ℕ
 abbrev μ-put-pdus : Measures 2 put-pdus-kinds.ps ℕ
 μ-put-pdus κs a = 4 * a.1.1.0 + 3
 
-abbrev put-flow-records-Inv-loop : put-flow-records-lts.invariant-loop
+abbrev put-flow-records-Inv-loop : put-flow-records-lts.invariant-loop-rest
 put-flow-records-Inv-loop s at n left store₀ base parent cur₀ word₀ rest₀ store cur word rest = Places (flow base_mode depth_limit left) s n base parent at word₀ store₀ cur word rest store
 
-abbrev put-flow-records-μ-loop : put-flow-records-lts.decreases-loop
+abbrev put-flow-records-μ-loop : put-flow-records-lts.decreases-loop-rest
 put-flow-records-μ-loop s at n left store₀ base parent cur₀ word₀ rest₀ store cur word rest = rest
 
-abbrev put-pdus-Inv-loop : put-pdus-lts.invariant-loop
+abbrev put-pdus-Inv-loop : put-pdus-lts.invariant-loop-rest
 put-pdus-Inv-loop s at left store₀ base word parent cur₀ to₀ rest₀ store cur to rest = Places (pdu (depth_limit - left) (flow base_mode depth_limit left)) s rest₀ base parent cur₀ to₀ store₀ cur to rest store
 
-abbrev put-pdus-μ-loop : put-pdus-lts.decreases-loop
+abbrev put-pdus-μ-loop : put-pdus-lts.decreases-loop-rest
 put-pdus-μ-loop s at left store₀ base word parent cur₀ to₀ rest₀ store cur to rest = rest
 
 ruleset putting = (
@@ -117,7 +117,7 @@ pub +put_flow_record_put_flow_records_put_pdus_spec : {M : Type 1} → statement
     (λ c. search putting)  -- put-flow-records-loop-less
     (λ c. search putting)  -- put-flow-records-loop-again
     (λ c. search putting)  -- put-flow-records-same-length
-    (λ c. placing.put_done _ _ _ _ _ _ _ _ c.before.loop.invariant.2 c.loop-test.false)  -- put-flow-records-returns
+    (λ c. placing.put_done _ _ _ _ _ _ _ _ c.before.loop-rest.invariant.2 c.loop-rest-test.false)  -- put-flow-records-returns
     )
     λ t. put-pdus-lts.spec (
       index-at-reads.Asked,
@@ -154,7 +154,7 @@ pub +put_flow_record_put_flow_records_put_pdus_spec : {M : Type 1} → statement
     let i = p.before in
     let n = i.before.before in
     let w = n.before in
-    records.pdu_own _ _ _ _ _ _ _ _ w.before.loop.invariant.1 w.loop-test.true n.be322.ensures i.index-at2.ensures p.put-flow-records.ensures)  -- put-pdus-put-requires
+    records.pdu_own _ _ _ _ _ _ _ _ w.before.loop-rest.invariant.1 w.loop-rest-test.true n.be32-n.ensures i.index_at.ensures p.put_flow_records-w.ensures)  -- put-pdus-put-requires
     (λ c. search putting)  -- put-pdus-sub-rest
     (λ c. search putting)  -- put-pdus-loop-less
     (λ c.
@@ -163,6 +163,6 @@ pub +put_flow_record_put_flow_records_put_pdus_spec : {M : Type 1} → statement
     let i = p.before in
     let n = i.before.before in
     let w = n.before in
-    records.pdu_turn _ _ _ _ _ _ _ _ w.before.loop.invariant.1 w.loop-test.true n.be322.ensures i.index-at2.ensures p.put-flow-records.ensures q.put.ensures w.before.loop.invariant.0 w.before.loop.invariant.2)  -- put-pdus-loop-again
+    records.pdu_turn _ _ _ _ _ _ _ _ w.before.loop-rest.invariant.1 w.loop-rest-test.true n.be32-n.ensures i.index_at.ensures p.put_flow_records-w.ensures q.put.ensures w.before.loop-rest.invariant.0 w.before.loop-rest.invariant.2)  -- put-pdus-loop-again
     (λ c. search putting)  -- put-pdus-same-length
-    (λ c. records.data_filled _ _ _ _ _ _ (search putting) (search putting) (search putting) (search putting) (placing.put_done _ _ _ _ _ _ _ _ c.before.loop.invariant.2 c.loop-test.false))  -- put-pdus-returns
+    (λ c. records.data_filled _ _ _ _ _ _ (search putting) (search putting) (search putting) (search putting) (placing.put_done _ _ _ _ _ _ _ _ c.before.loop-rest.invariant.2 c.loop-rest-test.false))  -- put-pdus-returns

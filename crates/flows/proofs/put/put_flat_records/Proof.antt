@@ -7,19 +7,19 @@ use Rattle.store.proofs.Loops.{Places}
 use Rattle.flows.proofs.put.put_flat_records.Statement.{statement}
 use Rattle.flows.proofs.put.put_flat_records.Tie as tie
 
-abbrev invariant-loop : tie.invariant-loop
-invariant-loop s at n left store₀ base parent depth cur₀ word₀ rest₀ store cur word rest =
+abbrev invariant-loop-rest : tie.invariant-loop-rest
+invariant-loop-rest s at n left store₀ base parent depth cur₀ word₀ rest₀ store cur word rest =
     (rest ≤ n) × (depth ≡ depth_limit + 1 - left) × Places (flow base_mode depth_limit left) s n base parent at word₀ store₀ cur word rest store
 
-abbrev decreases-loop : tie.decreases-loop
-decreases-loop s at n left store₀ base parent depth cur₀ word₀ rest₀ store cur word rest = rest
+abbrev decreases-loop-rest : tie.decreases-loop-rest
+decreases-loop-rest s at n left store₀ base parent depth cur₀ word₀ rest₀ store cur word rest = rest
 
 pub put_flat_records_spec : {M : Type 1} → statement M
 put_flat_records_spec =
     tie.close
     (tie.spec
-    invariant-loop
-    decreases-loop
+    invariant-loop-rest
+    decreases-loop-rest
     (λ c. search flat)  -- sub-depth
     (λ c. search flat)  -- cast-depth
     (λ c. search flat)  -- loop-holds

@@ -60,16 +60,16 @@ abbrev μ-one-pdu : Measures 1 one-pdu-kinds.ps ℕ
 abbrev μ-pdus : Measures 1 pdus-kinds.ps ℕ
 μ-pdus κs a = 6 * a.1.1.1.0 + 3
 
-abbrev flow-records-Inv-loop : flow-records-lts.invariant-loop
+abbrev flow-records-Inv-loop : flow-records-lts.invariant-loop-rest
 flow-records-Inv-loop s n left mode count cur₀ found₀ rest₀ cur found rest = Counts (flow (mode_of mode) depth_limit left) s n cur₀ found₀ cur found rest
 
-abbrev flow-records-μ-loop : flow-records-lts.decreases-loop
+abbrev flow-records-μ-loop : flow-records-lts.decreases-loop-rest
 flow-records-μ-loop s n left mode count cur₀ found₀ rest₀ cur found rest = rest
 
-abbrev pdus-Inv-loop : pdus-lts.invariant-loop
+abbrev pdus-Inv-loop : pdus-lts.invariant-loop-rest
 pdus-Inv-loop s n left mode count cur₀ found₀ rest₀ cur found rest = Counts (pdu (depth_limit - left) (flow (mode_of mode) depth_limit left)) s n cur₀ found₀ cur found rest
 
-abbrev pdus-μ-loop : pdus-lts.decreases-loop
+abbrev pdus-μ-loop : pdus-lts.decreases-loop-rest
 pdus-μ-loop s n left mode count cur₀ found₀ rest₀ cur found rest = rest
 
 ruleset scanning = (
