@@ -12,18 +12,18 @@ use Rattle.datagram.proofs.Running.{running}
 use Rattle.datagram.proofs.run.scan_run.Statement.{statement}
 use Rattle.datagram.proofs.run.scan_run.Tie as tie
 
-abbrev invariant-loop : tie.invariant-loop
-invariant-loop s mode cur₀ found₀ cur found = Scan s cur found × (counted found (run_from (mode_of mode) s (place cur)) ≡ counted 0 (run_from (mode_of mode) s (from 0)))
+abbrev invariant-loop-cur : tie.invariant-loop-cur
+invariant-loop-cur s mode cur₀ found₀ cur found = Scan s cur found × (counted found (run_from (mode_of mode) s (place cur)) ≡ counted 0 (run_from (mode_of mode) s (from 0)))
 
-abbrev decreases-loop : tie.decreases-loop
-decreases-loop s mode cur₀ found₀ cur found = length s - cur.at
+abbrev decreases-loop-cur : tie.decreases-loop-cur
+decreases-loop-cur s mode cur₀ found₀ cur found = length s - cur.at
 
 pub scan_run_spec : {M : Type 1} → statement M
 scan_run_spec =
     tie.close
     (tie.spec
-    invariant-loop
-    decreases-loop
+    invariant-loop-cur
+    decreases-loop-cur
     (λ c. search (at_start, running))  -- loop-holds
     (λ c κs. search running)  -- scan-datagram-requires
     (λ c. search running)  -- enum-known-r

@@ -6,18 +6,18 @@ use Rattle.layout.proofs.Loops.{Counts}
 use Rattle.samples.proofs.scan.samples.Statement.{statement}
 use Rattle.samples.proofs.scan.samples.Tie as tie
 
-abbrev invariant-loop : tie.invariant-loop
-invariant-loop s n mode count cur₀ found₀ rest₀ cur found rest = Counts (sample (mode_of mode) depth_limit) s n cur₀ found₀ cur found rest
+abbrev invariant-loop-rest : tie.invariant-loop-rest
+invariant-loop-rest s n mode count cur₀ found₀ rest₀ cur found rest = Counts (sample (mode_of mode) depth_limit) s n cur₀ found₀ cur found rest
 
-abbrev decreases-loop : tie.decreases-loop
-decreases-loop s n mode count cur₀ found₀ rest₀ cur found rest = rest
+abbrev decreases-loop-rest : tie.decreases-loop-rest
+decreases-loop-rest s n mode count cur₀ found₀ rest₀ cur found rest = rest
 
 pub samples_spec : {M : Type 1} → statement M
 samples_spec =
     tie.close
     (tie.spec
-    invariant-loop
-    decreases-loop
+    invariant-loop-rest
+    decreases-loop-rest
     (λ c. search sampling)  -- loop-holds
     (λ c κs. search sampling)  -- one-sample-requires
     (λ c. search sampling)  -- enum-known-r
