@@ -45,6 +45,7 @@ item_code h (no_part n) = opaque_code n
 item_code h (no_string n) = opaque_code n
 
 fault_code : {m : ℕ} {sc : Script} {o c i n : ℕ} {b : List ℕ} → 7 ≤ m → To m sc → Stops sc o b c i n → (2 ≤ c) × (c ≤ m)
+fault_code w to_give t = elim t [ ]
 fault_code w (to_refuse y z) (barred e f g) = (omega arith, omega arith)
 fault_code w (to_here h) (standing t) = fault_code w (h _) t
 fault_code w (to_item y h) (no_item z e f) = let k = item_code y z in (k.0, omega (arith, k.1))

@@ -134,29 +134,29 @@ good_flows : (mode : Mode) {a : Script} → Good a → Rows (flows mode a)
 unfolding flows
 good_flows mode h = search (flat, counts, over_all) depth 200
 
-good_flow : (mode : Mode) (longest_input left : ℕ) → Good (flow mode longest_input left)
+good_flow : (mode : Mode) (levels left : ℕ) → Good (flow mode levels left)
 unfolding flow Is
-good_flow mode longest_input zero = record { says = λ o u f k t. absurd t }
-good_flow mode longest_input (suc left) = good_framed 2 (longest_input - left) (good_opened (good_flows mode (good_pdu (longest_input - left) (good_flow mode longest_input left))))
+good_flow mode levels zero = record { says = λ o u f k t. absurd t }
+good_flow mode levels (suc left) = good_framed 2 (levels - left) (good_opened (good_flows mode (good_pdu (levels - left) (good_flow mode levels left))))
 
 good_fixed : (t : List Fixed) → Rows (fixed_rows t)
 good_fixed [] = over_all
 good_fixed (x ∷ t) = flat (good_fixed t)
 
-good_sample : (mode : Mode) (longest_input : ℕ) → Good (sample mode longest_input)
+good_sample : (mode : Mode) (levels : ℕ) → Good (sample mode levels)
 unfolding samples
-good_sample mode longest_input =
-    let f : Good (flow mode longest_input longest_input) = good_flow mode longest_input longest_input in
+good_sample mode levels =
+    let f : Good (flow mode levels levels) = good_flow mode levels levels in
     let c : Good counter = good_framed 3 1 (good_opened (good_fixed counters)) in
     good_framed 1 0 (good_opened (counts f (counts c (counts f (counts c (counts f over_all))))))
 
-good_datagram : (mode : Mode) (longest_input o : ℕ) (u : List ℕ) (f : Found) (k : ℕ) → Is (datagram_to mode longest_input) o u f k → (s : List ℕ) → StandsAt s o u → Frames s f.ranges
+good_datagram : (mode : Mode) (levels o : ℕ) (u : List ℕ) (f : Found) (k : ℕ) → Is (datagram_to mode levels) o u f k → (s : List ℕ) → StandsAt s o u → Frames s f.ranges
 unfolding Is datagram_to
-good_datagram mode longest_input o u f k t = (good_fields header (λ vs. samples_of o vs)).says o u f k t
+good_datagram mode levels o u f k t = (good_fields header (λ vs. samples_of o vs)).says o u f k t
   where
-    samples_of : (a : ℕ) (vs : List Value) → Good (repeat (last_number vs) (sample mode longest_input) (λ r. here (λ e. give (record { values = vs; ranges = ranged 0 0 0 a (between a e) r.ranges }))))
+    samples_of : (a : ℕ) (vs : List Value) → Good (repeat (last_number vs) (sample mode levels) (λ r. here (λ e. give (record { values = vs; ranges = ranged 0 0 0 a (between a e) r.ranges }))))
     samples_of a vs = record {
-      says = λ o u f k (x, y, b, i, j, e, en, many, (ey, ef, ej)) s h. found_as ef (also (λ m n. absurd (omega arith)) (good_many (good_sample mode longest_input) (last_number vs) _ _ _ _ many s (front x y e h)) none);
+      says = λ o u f k (x, y, b, i, j, e, en, many, (ey, ef, ej)) s h. found_as ef (also (λ m n. absurd (omega arith)) (good_many (good_sample mode levels) (last_number vs) _ _ _ _ many s (front x y e h)) none);
     }
 
 good_run_of : (mode : Mode) (s : List ℕ) {at end n : ℕ} {g : Forest} → Run mode s at g end n → Frames s g
@@ -181,6 +181,7 @@ frame_payload s r h f =
 -- ---- the calls
 
 each_of : {s : List ℕ} {r : Range} {inner g : Forest} → Frames s g → Among r inner g → Frame s r
+each_of none m = elim m [ ]
 each_of (also h i j) this = h
 each_of (also h i j) (inside m) = each_of i m
 each_of (also h i j) (later m) = each_of j m

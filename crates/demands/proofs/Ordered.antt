@@ -4,13 +4,14 @@ use Prim.Native.Nat.{ℕ, ◌+◌, ◌≤◌, ◌<◌}
 use native.Mathlib.Omega.{arith}
 use Rattle.reading.specs.Script.{Forest, tree}
 use Rattle.reading.specs.Answer.{size}
-use Rattle.demands.specs.Nested.{last, Level, Nested, next, Row}
+use Rattle.demands.specs.Nested.{last, Level, Nested, none, next, Row}
 use Rattle.demands.proofs.Nested.{leads, forward}
 use Rattle.demands.proofs.Siblings.{In, this, within, behind, parted, in_bounds, inner_parent, inner_kind, inner_led}
 
 -- a first byte is at least a word before that of each descriptor behind
 pub in_order : {f : Forest} {v : Level} {j p i k lo hi : ℕ} {x y : Row} → Nested v lo hi f → In f j p i x → In f j p k y → i < k → x.first + 4 ≤ y.first
 unfolding size
+in_order (none h) m n l = elim m [ ]
 in_order (next kd h d a b) (this e) (this f) l = absurd (omega arith)
 in_order (next {v = v} {r = r} kd h d a b) (this e) (within m) l = let u = in_bounds a m in let z = leads v r d in omega (arith, u.0, z.0)
 in_order (next {v = v} {r = r} kd h d a b) (this e) (behind m) l = let u = in_bounds b m in let z = leads v r d in let c = forward a in omega (arith, u.0, z.0)
@@ -31,6 +32,7 @@ pub record Block (f : Forest) (j p i : ℕ) (x : Row) : Type 0 where
 
 pub block : {f : Forest} {v : Level} {j p i lo hi : ℕ} {x : Row} → Nested v lo hi f → In f j p i x → Block f j p i x
 unfolding size
+block (none h) m = elim m [ ]
 block {p = p} (next {r = r} {inner} {after} kd h d a b) (this {j = j} {i = i} e) =
     record { count = size inner; fits = omega arith; inner = λ m. within_it m; outer = λ m. behind_it m }
   where

@@ -74,9 +74,9 @@ field_goes segments k b = run_goes segment k b
 fields_goes : {s t : List ℕ} {p : Place} {a : Found} {q : Place} (l : List Field) (more : List Value → Script) → Alike (fields l more) s t p a q → Goes (fields_out l s p) (fields_out l t p) more s t a q
 unfolding fields fields_out
 fields_goes {p = p} [] more b = record { value = []; next = p; first = refl; again = refl; rest = b }
-fields_goes (f ∷ rest) more b =
+fields_goes {p = p} (f ∷ rest) more b =
     let c = field_goes f _ b in
-    let d = fields_goes rest _ c.rest in
+    let d = fields_goes {p = c.next} rest _ c.rest in
     record { value = c.value ∷ d.value; next = d.next; first = rw (c.first, d.first); again = rw (c.again, d.again); rest = d.rest }
 
 -- ---- a layout, read alone
@@ -114,6 +114,7 @@ each_as m none = none
 each_as m (also {r} h i j) = also (m r h) (each_as m i) (each_as m j)
 
 each_of : {P : Range → Type 0} {r : Range} {inner f : Forest} → Each P f → Among r inner f → P r
+each_of none m = elim m [ ]
 each_of (also h i j) this = h
 each_of (also h i j) (inside m) = each_of i m
 each_of (also h i j) (later m) = each_of j m
@@ -237,12 +238,12 @@ opens_flow : (mode : Mode) (inner : Script) → Good mode inner → (f : ℕ) �
 unfolding layout_of flows
 opens_flow mode inner g = opens_rows (good_flows mode inner g)
 
-good_flow : (mode : Mode) (longest_input left : ℕ) → Good mode (flow mode longest_input left)
+good_flow : (mode : Mode) (levels left : ℕ) → Good mode (flow mode levels left)
 unfolding flow follow
-good_flow mode longest_input zero = λ s t p a q b. never b.reads
-good_flow mode longest_input (suc left) =
-    let d = longest_input - left in
-    good_framed mode 2 d (opened (flows mode (pdu d (flow mode longest_input left)))) (opens_flow mode (pdu d (flow mode longest_input left)) (good_pdu mode d (flow mode longest_input left) (good_flow mode longest_input left)))
+good_flow mode levels zero = λ s t p a q b. never b.reads
+good_flow mode levels (suc left) =
+    let d = levels - left in
+    good_framed mode 2 d (opened (flows mode (pdu d (flow mode levels left)))) (opens_flow mode (pdu d (flow mode levels left)) (good_pdu mode d (flow mode levels left) (good_flow mode levels left)))
 
 good_fixed : (mode : Mode) (t : List Fixed) → Rows mode (fixed_rows t)
 good_fixed mode [] = over

@@ -5,7 +5,7 @@ use mathlib.Core.Path.{◌≡◌, refl, sym}
 use native.Mathlib.Omega.{arith}
 use Rattle.reading.specs.Script.{Range, Forest, tree}
 use Rattle.reading.specs.Answer.{size}
-use Rattle.demands.specs.Nested.{end, last, Level, top, inside, Nested, next, Row}
+use Rattle.demands.specs.Nested.{end, last, Level, top, inside, Nested, none, next, Row}
 use Rattle.demands.proofs.Nested.{led, leads, forward}
 
 -- in a forest whose first index is j and whose parent is p, the descriptor with index i is this one
@@ -41,6 +41,7 @@ parted {p = p} {i = i} {x = x} (behind {inner = inner} {j = j} m) = let h = part
 -- ---- by the forest
 
 pub in_bounds : {f : Forest} {v : Level} {j p i lo hi : ℕ} {x : Row} → Nested v lo hi f → In f j p i x → (lo ≤ x.first) × (x.first ≤ x.span.start) × (last x.span ≤ hi)
+in_bounds (none h) m = elim m [ ]
 in_bounds (next {v = v} {r = r} z h d i j) (this e) = (h, led v r d, forward j)
 in_bounds (next {v = v} {r = r} z h d i j) (within m) = let b = in_bounds i m in let k = forward j in let l = leads v r d in (omega (arith, b.0, l.0), b.1, omega (arith, b.2))
 in_bounds (next {v = v} {r = r} z h d i j) (behind m) = let b = in_bounds j m in let k = forward i in let l = leads v r d in (omega (arith, b.0, l.0), b.1, b.2)
@@ -85,27 +86,32 @@ not_inside (over h) u v e = omega arith
 
 -- what is inside a range is no datagram's; and at the top each is one's, and has p as its parent
 pub inner_kind : {f : Forest} {j p i lo hi : ℕ} {x : Row} → Nested inside lo hi f → In f j p i x → 0 < x.kind
+inner_kind (none h) m = elim m [ ]
 inner_kind (next kd h d a b) (this e) = kd
 inner_kind (next kd h d a b) (within m) = inner_kind a m
 inner_kind (next kd h d a b) (behind m) = inner_kind b m
 
 -- and begins a word before its range
 pub inner_led : {f : Forest} {j p i lo hi : ℕ} {x : Row} → Nested inside lo hi f → In f j p i x → x.first + 4 ≤ x.span.start
+inner_led (none h) m = elim m [ ]
 inner_led (next kd h d a b) (this e) = d
 inner_led (next kd h d a b) (within m) = inner_led a m
 inner_led (next kd h d a b) (behind m) = inner_led b m
 
 pub root_first : {f : Forest} {j p i lo hi : ℕ} {x : Row} → Nested top lo hi f → In f j p i x → x.kind ≡ 0 → x.first ≡ x.span.start
+root_first (none h) m z = elim m [ ]
 root_first (next kd h d a b) (this e) z = d
 root_first (next kd h d a b) (within m) z = let k = inner_kind a m in absurd (omega arith)
 root_first (next kd h d a b) (behind m) z = root_first b m z
 
 pub root_parent : {f : Forest} {j p i lo hi : ℕ} {x : Row} → Nested top lo hi f → In f j p i x → x.kind ≡ 0 → x.parent ≡ p
+root_parent (none h) m z = elim m [ ]
 root_parent (next kd h d a b) (this e) z = refl
 root_parent (next kd h d a b) (within m) z = let k = inner_kind a m in absurd (omega arith)
 root_parent (next kd h d a b) (behind m) z = root_parent b m z
 
 pub root_kind : {f : Forest} {j p i lo hi : ℕ} {x : Row} → Nested top lo hi f → Outside f j p → In f j p i x → x.parent ≡ p → x.kind ≡ 0
+root_kind (none h) o m z = elim m [ ]
 root_kind (next kd h d a b) o (this e) z = kd
 root_kind (next kd h d a b) o (within m) z = let u = inner_parent m in absurd (not_inside o u.0 u.1 (sym z))
 root_kind (next kd h d a b) o (behind m) z = root_kind b (after_outside o) m z
@@ -117,6 +123,7 @@ pub record Held (x y : Row) : Type 0 where
   pub to : last x.span ≤ end y.span
 
 pub parent_holds : {f : Forest} {v : Level} {j p i k lo hi : ℕ} {x y : Row} → Nested v lo hi f → Outside f j p → In f j p i x → In f j p k y → x.parent ≡ k → Held x y
+parent_holds (none h) o m n z = elim m [ ]
 parent_holds (next kd h d a b) o (this e) m z = absurd (own_outside o m z)
 parent_holds (next {v = v} {r = r} kd h d a b) o (within m) (this e) z = let u = in_bounds a m in let l = leads v r d in record { from = omega (arith, u.0, l.1); leads = inner_led a m; to = u.2 }
 parent_holds (next kd h d a b) o (within m) (within n) z = parent_holds a (under (omega arith)) m n z
@@ -127,6 +134,7 @@ parent_holds (next kd h d a b) o (behind m) (behind n) z = parent_holds b (after
 
 pub siblings_apart : {f : Forest} {v : Level} {j p i k lo hi : ℕ} {x y : Row} → Nested v lo hi f → Outside f j p → In f j p i x → In f j p k y → i < k → x.parent ≡ y.parent → last x.span ≤ y.first
 unfolding size
+siblings_apart (none h) o m n l z = elim m [ ]
 siblings_apart (next kd h d a b) o (this e) (this f) l z = absurd (omega arith)
 siblings_apart (next kd h d a b) o (this e) (within m) l z = let u = inner_parent m in absurd (not_inside o u.0 u.1 z)
 siblings_apart (next kd h d a b) o (this e) (behind m) l z = (in_bounds b m).0

@@ -12,7 +12,7 @@ use Rattle.reading.specs.Script.{Found, Item, Script}
 use Rattle.reading.specs.Grammar.{Opaque}
 use Rattle.reading.specs.Layout.{Mode, datagram}
 use Rattle.reading.proofs.Stands.{drop_take}
-use Rattle.reading.proofs.Faults.{fair_item, test_code, Coded, refuses, stands, reads, opens, repeats}
+use Rattle.reading.proofs.Faults.{fair_item, test_code, Coded, gives, refuses, stands, reads, opens, repeats}
 use Rattle.reading.proofs.Codes.{coded_datagram}
 use Rattle.demands.specs.Stops.{NoOpaque, no_length, too_long, cut, NoItem, no_word, no_tested, failed, no_long, no_int, no_block, no_part, no_string, Stops, barred, standing, no_item, not_text, past_item, no_opaque, inside_it, past_it, among, past_all}
 use Rattle.demands.proofs.Enclosed.{opaque_long}
@@ -112,6 +112,7 @@ opaque_alike {o} {a} {u} {v} {x} h q l m =
 
 -- ---- a script that stops with code 8 stops so, whatever stands from there on
 pub unseen : {sc : Script} {o c a n : ℕ} {b : List ℕ} → Coded sc → Stops sc o b c a n → c ≡ 8 → (d : List ℕ) → Same o a b d → Stops sc o d c a n
+unseen gives t z d h = elim t [ ]
 unseen (refuses k) (barred e f g) z d h = barred e f g
 unseen {o = o} (stands k) (standing t) z d h = standing (unseen (k o) t z d h)
 unseen (reads i k) (no_item m e f) z d h = absurd (item_not_8 m i z)
