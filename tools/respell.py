@@ -61,8 +61,7 @@ def main():
         if p.suffix == ".antt" and (rest[0] == "specs" or rest[0] == "proofs" and len(rest) == 2):
             for m in DECLARED.finditer(p.read_text()):
                 own |= {w for w in m[1].split() if WORD.fullmatch(w) and not w.startswith("-")}
-    changed, clash = 0, []
-    written = {}
+    clash, written = [], {}
     for p in files:
         text = p.read_text()
         theirs = {w.split(" as ")[0].strip() for m in outside.finditer(text) for w in m[1].split(",")}
@@ -84,6 +83,7 @@ def main():
         for name, olds in turned.items():
             if len(olds) > 1 or name in plain:
                 clash.append(f"{p}: {', '.join(sorted(olds))} and {name}")
+        new = new.replace("&&", "⊞") if p.suffix != ".rt" else new  # two readings joined: the library has the old sign for its own
         if new != text:
             written[p] = new
     for line in clash:

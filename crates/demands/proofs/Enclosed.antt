@@ -6,7 +6,7 @@ use mathlib.Core.List.{List}
 use native.Mathlib.Omega.{arith}
 use lib.ListN.{length, take, drop, length-append}
 use lib.Seq.{length-take-le}
-use Rattle.reading.specs.Script.{Span, part, Found, nothing, ◌&&◌, opaque}
+use Rattle.reading.specs.Script.{Span, part, Found, nothing, ◌⊞◌, opaque}
 use Rattle.reading.specs.Cursor.{Place, Out, got, stop, Reader, then, read_opaque, read_item, times}
 use Rattle.reading.specs.Grammar.{Opaque, IsItem}
 use Rattle.reading.proofs.Items.{never}
@@ -66,12 +66,12 @@ some r s zero p code at n e = never (sym e)
 some r s (suc c) p code at n e = go (λ q. some r s c q code at n) (r s p) refl e
   where
     go : ((q : Place) → times c r s q ≡ stop code at n → Some r s q c code at n) → (o : Out Found) → r s p ≡ o
-        → then o (λ a q. then (times c r s q) (λ b i. got (a && b) i)) ≡ stop code at n → Some r s p (suc c) code at n
+        → then o (λ a q. then (times c r s q) (λ b i. got (a ⊞ b) i)) ≡ stop code at n → Some r s p (suc c) code at n
     go again (stop d b m) f e = record { count = 0; fewer = omega arith; found = nothing; last = p; before = refl; here_it = f ∙ e }
     go again (got a q) f e = more (times c r s q) refl e
       where
-        more : (o : Out Found) → times c r s q ≡ o → then o (λ b i. got (a && b) i) ≡ stop code at n → Some r s p (suc c) code at n
+        more : (o : Out Found) → times c r s q ≡ o → then o (λ b i. got (a ⊞ b) i) ≡ stop code at n → Some r s p (suc c) code at n
         more (got b i) g e = never (sym e)
         more (stop d b m) g e =
             let t = again q (g ∙ e) in
-            record { count = suc t.count; fewer = omega (arith, t.fewer); found = a && t.found; last = t.last; before = rw (f, t.before); here_it = t.here_it }
+            record { count = suc t.count; fewer = omega (arith, t.fewer); found = a ⊞ t.found; last = t.last; before = rw (f, t.before); here_it = t.here_it }

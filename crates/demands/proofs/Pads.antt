@@ -12,7 +12,7 @@ use lib.Seq.{ext_get_or, get_or-take, get_or-drop, length-take-le}
 use Rattle.reading.specs.Bytes.{be4, padded}
 use Rattle.reading.specs.Utf8.{utf8}
 use Rattle.reading.specs.Grammar.{Is}
-use Rattle.reading.specs.Script.{Span, Value, part, Found, ◌&&◌, Item, word, tested, long, int, block, opaque, string, Script, give, refuse, here, item, within, repeat}
+use Rattle.reading.specs.Script.{Span, Value, part, Found, ◌⊞◌, Item, word, tested, long, int, block, opaque, string, Script, give, refuse, here, item, within, repeat}
 use Rattle.reading.specs.Cursor.{Place, Out, got, stop, Reader, fixed, awaited, bytes, ill_at, read_opaque, read_item, times, held_to, inside, follow}
 use Rattle.reading.specs.Sizes.{longest_input, longest_opaque, depth_limit}
 use Rattle.reading.proofs.Items.{never, split, held_to_end, OpaqueRead, opaque_read}
@@ -346,7 +346,7 @@ pub record TurnGoes (n : ℕ) (sc : Script) (s t : List ℕ) (p : Place) (a : Fo
   pub first : Alike sc s t p one next
   pub others : Found
   pub rest : AlikeTimes n sc s t next others q
-  pub found : one && others ≡ a
+  pub found : one ⊞ others ≡ a
 
 -- so many, and what follows them
 pub record RepeatGoes (n : ℕ) (body : Script) (k : Found → Script) (s t : List ℕ) (p : Place) (a : Found) (q : Place) : Type 0 where

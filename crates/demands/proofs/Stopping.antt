@@ -8,7 +8,7 @@ use borrow.Author.Tests.{le-leb, lt-leb}
 use lib.ListN.{length, drop, length-drop, length-append}
 use Rattle.reading.specs.Sizes.{longest_opaque}
 use Rattle.reading.specs.Bytes.{be4, padded}
-use Rattle.reading.specs.Script.{octet_count, Found, ◌&&◌, Item, string}
+use Rattle.reading.specs.Script.{octet_count, Found, ◌⊞◌, Item, string}
 use Rattle.reading.specs.Cursor.{Place, got, stop, Reader, then, fixed, bytes, read_opaque, read_item, times}
 use Rattle.reading.specs.Utf8.{Longest}
 use Rattle.reading.proofs.Utf8Longest.{longest, longest_is, short_ill}
@@ -96,5 +96,5 @@ many_stop r s (suc j) (suc c) p {a} {q} {code} {at} {n} l e f =
     place_is : {b : Found} {i : Place} → got b i ≡ got a q → i ≡ q
     place_is e = cc
 
-    go : {b : Found} {i : Place} → r s p ≡ got b i → times c r s i ≡ stop code at n → then (r s p) (λ b i. then (times c r s i) (λ d u. got (b && d) u)) ≡ stop code at n
+    go : {b : Found} {i : Place} → r s p ≡ got b i → times c r s i ≡ stop code at n → then (r s p) (λ b i. then (times c r s i) (λ d u. got (b ⊞ d) u)) ≡ stop code at n
     go e g = rw (e, g)

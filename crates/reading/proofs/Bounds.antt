@@ -9,7 +9,7 @@ use lib.Dec.{leb}
 use lib.ListN.{length}
 use Rattle.reading.specs.Bytes.{be4}
 use Rattle.reading.specs.Utf8.{utf8}
-use Rattle.reading.specs.Script.{Width, four, six, eight, sixteen, octet_count, Span, number, part, Found, ◌&&◌, Item, word, tested, long, int, block, opaque, string, Script, give, refuse, here, item, within, repeat}
+use Rattle.reading.specs.Script.{Width, four, six, eight, sixteen, octet_count, Span, number, part, Found, ◌⊞◌, Item, word, tested, long, int, block, opaque, string, Script, give, refuse, here, item, within, repeat}
 use Rattle.reading.specs.Cursor.{Place, Out, got, stop, Reader, then, on, fixed, bytes, ill_at, read_opaque, read_item, times, held_to, inside, follow}
 use Rattle.reading.proofs.Items.{held_to_end, opaque_read, OrHere, refused, opaque_here}
 
@@ -97,7 +97,7 @@ module _ (s : List ℕ) where
   owes_times : (r : Reader Found) → ((p : Place) → p.at ≤ length s → Owes s p (r s p)) → (n : ℕ) (p : Place) → p.at ≤ length s → Owes s p (times n r s p)
   unfolding times Owes
   owes_times r f zero p h = (omega arith, h, omega arith)
-  owes_times r f (suc n) p h = owes_then s p (r s p) _ (f p h) (λ a q i. owes_value s q (times n r s q) (λ b. a && b) (owes_times r f n q i))
+  owes_times r f (suc n) p h = owes_then s p (r s p) _ (f p h) (λ a q i. owes_value s q (times n r s q) (λ b. a ⊞ b) (owes_times r f n q i))
 
   -- a reading inside an opaque owes to the payload; with the opaque's own word it owes to what the opaque passed
   owes_within : (p : Place) (o : Out Span) → Holds s p o

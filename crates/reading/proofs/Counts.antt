@@ -4,7 +4,7 @@ use mathlib.Core.Path.{◌≡◌, refl, sym, ap, ◌∙◌}
 use mathlib.Core.List.{List}
 use native.Mathlib.Omega.{arith}
 use native.Mathlib.Nat.{add-zero, add_assoc}
-use Rattle.reading.specs.Script.{Span, Value, number, part, Forest, bare, tree, ◌⊕◌, Found, nothing, ◌&&◌, word, opaque, Script, give, repeat}
+use Rattle.reading.specs.Script.{Span, Value, number, part, Forest, bare, tree, ◌⊕◌, Found, nothing, ◌⊞◌, word, opaque, Script, give, repeat}
 use Rattle.reading.specs.Cursor.{Place, Out, got, stop, Reader, then, read_opaque, read_item, times, held_to, inside, follow}
 use Rattle.reading.specs.Layout.{num, Field, fields, last_number, only, ranged, between, framed, pdu}
 use Rattle.reading.specs.Answer.{size}
@@ -37,11 +37,11 @@ module _ (r : Reader Found) (s : List ℕ) (p : Place) (k : ℕ) where
   unfolding counted times
   turn_got {j} {q} n e = go (r s p) e
     where
-      last : (a : Found) (o : Out Found) → counted k (then o (λ b i. got (a && b) i)) ≡ counted (k + size a.ranges) o
+      last : (a : Found) (o : Out Found) → counted k (then o (λ b i. got (a ⊞ b) i)) ≡ counted (k + size a.ranges) o
       last a (got b i) = ap (λ (m : ℕ). got m i) (ap (λ (m : ℕ). k + m) (size_joined a.ranges b.ranges) ∙ sym (add_assoc k (size a.ranges) (size b.ranges)))
       last a (stop c t m) = refl
 
-      go : (o : Out Found) → got j q ≡ counted k o → counted k (then o (λ a i. then (times n r s i) (λ b u. got (a && b) u))) ≡ counted j (times n r s q)
+      go : (o : Out Found) → got j q ≡ counted k o → counted k (then o (λ a i. then (times n r s i) (λ b u. got (a ⊞ b) u))) ≡ counted j (times n r s q)
       go (got a i) h =
           let x : j ≡ k + size a.ranges = cc in
           let y : q ≡ i = cc in
@@ -52,7 +52,7 @@ module _ (r : Reader Found) (s : List ℕ) (p : Place) (k : ℕ) where
   unfolding counted times
   turn_stop {c} {t} {m} n e = go (r s p) e
     where
-      go : (o : Out Found) → stop c t m ≡ counted k o → stop c t m ≡ counted k (then o (λ a i. then (times n r s i) (λ b u. got (a && b) u)))
+      go : (o : Out Found) → stop c t m ≡ counted k o → stop c t m ≡ counted k (then o (λ a i. then (times n r s i) (λ b u. got (a ⊞ b) u)))
       go (got a i) h = never h
       go (stop c' t' m') h = h
 

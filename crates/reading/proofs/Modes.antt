@@ -9,7 +9,7 @@ use borrow.Author.Tests.{le-leb}
 use lib.Dec.{eqb}
 use lib.ListN.{length, take, drop}
 use Rattle.reading.specs.Bytes.{be4}
-use Rattle.reading.specs.Script.{six, eight, Span, Value, number, octets, Found, nothing, ◌&&◌, word, block, Script, give, repeat}
+use Rattle.reading.specs.Script.{six, eight, Span, Value, number, octets, Found, nothing, ◌⊞◌, word, block, Script, give, repeat}
 use Rattle.reading.specs.Cursor.{Place, Out, got, stop, Reader, then, on, fixed, read_opaque, read_item, times, held_to, inside, follow}
 use Rattle.reading.specs.Layout.{num, oct, Field, plain, mac, words, bytes, fields, Row, ◌⟼◌, ◌⟼◌each◌, last_number, opened, only, ranged, framed, pdu, Mode, memo, base, ethernet, flows, flow, counter, samples, sample, header, datagram}
 use Rattle.reading.specs.Sizes.{depth_limit}

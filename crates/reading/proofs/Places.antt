@@ -8,7 +8,7 @@ use borrow.Author.Tests.{leb-true, leb-false}
 use lib.Dec.{leb}
 use lib.ListN.{length, take}
 use Rattle.reading.specs.Bytes.{be4, padded}
-use Rattle.reading.specs.Script.{Span, Value, Forest, bare, ◌⊕◌, Found, ◌&&◌, Script, give, repeat}
+use Rattle.reading.specs.Script.{Span, Value, Forest, bare, ◌⊕◌, Found, ◌⊞◌, Script, give, repeat}
 use Rattle.reading.specs.Cursor.{Place, Out, got, stop, then, times, held_to, follow}
 use Rattle.reading.specs.Layout.{Field, fields, last_number, words, ranged, between, framed, pdu}
 use Rattle.reading.specs.Answer.{from}
@@ -110,7 +110,7 @@ pub record TurnAt (sc : Script) (n : ℕ) (s : List ℕ) (at : ℕ) : Type 0 whe
 
 module _ (sc : Script) (n : ℕ) (s : List ℕ) (at : ℕ) where
   turn_from : (a : Found) (p : Place) (b : Found) (q : Place) → follow sc s (from at) ≡ got a p → times n (follow sc) s p ≡ got b q
-      → times (suc n) (follow sc) s (from at) ≡ got (a && b) q → TurnAt sc n s at
+      → times (suc n) (follow sc) s (from at) ≡ got (a ⊞ b) q → TurnAt sc n s at
   unfolding ranges_of end_of
   turn_from a p b q e f g =
       let i : end_of (follow sc s (from at)) ≡ p.at = ap end_of e in
@@ -125,7 +125,7 @@ module _ (sc : Script) (n : ℕ) (s : List ℕ) (at : ℕ) where
         end = ap end_of g ∙ rw i z;
       }
 
-  turn_is : {a : Found} {p : Place} {b : Found} {q : Place} → follow sc s (from at) ≡ got a p → times n (follow sc) s p ≡ got b q → times (suc n) (follow sc) s (from at) ≡ got (a && b) q
+  turn_is : {a : Found} {p : Place} {b : Found} {q : Place} → follow sc s (from at) ≡ got a p → times n (follow sc) s p ≡ got b q → times (suc n) (follow sc) s (from at) ≡ got (a ⊞ b) q
   unfolding times
   turn_is e f = rw (e, f)
 

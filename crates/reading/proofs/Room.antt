@@ -7,7 +7,7 @@ use native.Mathlib.Omega.{arith}
 use lib.Dec.{eqb, leb}
 use lib.ListN.{length}
 use Rattle.reading.specs.Bytes.{be4}
-use Rattle.reading.specs.Script.{Value, number, Found, nothing, ◌&&◌, word, tested, Script, give, repeat}
+use Rattle.reading.specs.Script.{Value, number, Found, nothing, ◌⊞◌, word, tested, Script, give, repeat}
 use Rattle.reading.specs.Cursor.{Place, got, stop, Reader, then, on, read_item, times, follow}
 use Rattle.reading.specs.Layout.{Mode, Field, addr, fields, Row, last_number, opened, words, Fixed, fixed_rows, ranged, between, framed, pdu, flows, flow, counters, counter, samples, sample, header, datagram_to}
 use Rattle.reading.specs.Answer.{size}
@@ -37,9 +37,9 @@ item_on s p v q h e =
     (rw r.2 (omega arith), rw r.2 r.0)
 
 -- two finds in a row, over m
-both : {a : Found} {i q : Place} (g f : Found) (p m : ℕ) → got (g && f) i ≡ got a q → 4 * size g.ranges + p ≤ m → 4 * size f.ranges + m ≤ i.at → 4 * size a.ranges + p ≤ q.at
+both : {a : Found} {i q : Place} (g f : Found) (p m : ℕ) → got (g ⊞ f) i ≡ got a q → 4 * size g.ranges + p ≤ m → 4 * size f.ranges + m ≤ i.at → 4 * size a.ranges + p ≤ q.at
 both {a} {i} {q} g f p m e h k =
-    let x : g && f ≡ a = cc in
+    let x : g ⊞ f ≡ a = cc in
     let y : i ≡ q = cc in
     rw (← x, ← y, size_joined) (omega arith)
 

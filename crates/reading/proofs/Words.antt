@@ -7,7 +7,7 @@ use native.Mathlib.Omega.{arith}
 use borrow.Author.Tests.{le-leb, lt-leb, leb-true, leb-false}
 use lib.Dec.{leb}
 use lib.ListN.{length}
-use Rattle.reading.specs.Script.{Value, number, nothing, ◌&&◌, word}
+use Rattle.reading.specs.Script.{Value, number, nothing, ◌⊞◌, word}
 use Rattle.reading.specs.Cursor.{Place, Out, got, stop, then, on, read_item, times, follow}
 use Rattle.reading.specs.Bytes.{be4}
 use Rattle.reading.specs.Layout.{plain, any_word, words, last_number}
@@ -42,7 +42,7 @@ module _ (s : List ℕ) where
   unfolding follow read_item
   any_stop p h = simp (lt-leb _ _ h)
 
-  more : (n : ℕ) (p : Place) → p.at + 4 ≤ length s → times (suc n) (follow any_word) s p ≡ then (times n (follow any_word) s (on 4 p)) (λ b e. got (nothing && b) e)
+  more : (n : ℕ) (p : Place) → p.at + 4 ≤ length s → times (suc n) (follow any_word) s p ≡ then (times n (follow any_word) s (on 4 p)) (λ b e. got (nothing ⊞ b) e)
   unfolding times
   more n p h = rw (any_got p h)
 

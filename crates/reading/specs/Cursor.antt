@@ -3,7 +3,7 @@ use Rattle.std.specs.Prelude.{ℕ, zero, suc, ◌+◌, cond, List, length, take,
 use Rattle.reading.specs.Sizes.{longest_opaque}
 use Rattle.reading.specs.Bytes.{be4, be8, signed, padded}
 use Rattle.reading.specs.Utf8.{utf8, well_formed_of}
-use Rattle.reading.specs.Script.{octet_count, Span, Value, number, integer, octets, part, Found, nothing, ◌&&◌, Item, word, tested, long, int, block, opaque, string, Script, give, refuse, here, item, within, repeat}
+use Rattle.reading.specs.Script.{octet_count, Span, Value, number, integer, octets, part, Found, nothing, ◌⊞◌, Item, word, tested, long, int, block, opaque, string, Script, give, refuse, here, item, within, repeat}
 
 -- the next byte, counted from the input's first, and the steps: the items wholly read and accepted so far
 pub record Place : Type 0 where
@@ -66,7 +66,7 @@ read_item string s p = then (read_opaque s p) (λ x q. cond (utf8 (bytes s x)) (
 -- `r`, n times over, with all that it finds
 unfoldable pub times : ℕ → Reader Found → Reader Found
 times zero r s p = got nothing p
-times (suc n) r s p = then (r s p) (λ a q. then (times n r s q) (λ b e. got (a && b) e))
+times (suc n) r s p = then (r s p) (λ a q. then (times n r s q) (λ b e. got (a ⊞ b) e))
 
 -- the input up to the end of a span
 abbrev pub held_to : Span → List ℕ → List ℕ

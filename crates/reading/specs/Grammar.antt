@@ -3,7 +3,7 @@ use Rattle.std.specs.Prelude.{ℕ, zero, suc, ◌+◌, ◌≤◌, ◌≡◌, tru
 use Rattle.reading.specs.Utf8.{utf8}
 use Rattle.reading.specs.Sizes.{longest_opaque}
 use Rattle.reading.specs.Bytes.{be4, be8, signed, pads}
-use Rattle.reading.specs.Script.{octet_count, Value, number, integer, octets, part, Found, nothing, ◌&&◌, Item, word, tested, long, int, block, opaque, string, Script, give, refuse, here, item, within, repeat}
+use Rattle.reading.specs.Script.{octet_count, Value, number, integer, octets, part, Found, nothing, ◌⊞◌, Item, word, tested, long, int, block, opaque, string, Script, give, refuse, here, item, within, repeat}
 
 -- u is an opaque that holds x: a word that counts x, then x, then pad to a multiple of four, of any value
 pub record Opaque (x u : List ℕ) : Type 0 where
@@ -34,7 +34,7 @@ unfoldable pub Many : ℕ → Meaning → Meaning
 Many zero P o b f n = (b ≡ []) × (f ≡ nothing) × (n ≡ 0)
 Many (suc c) P o b f n =
     (x y : List ℕ) × (g h : Found) × (m l : ℕ)
-    × (b ≡ x ++ y) × (f ≡ g && h) × (n ≡ m + l)
+    × (b ≡ x ++ y) × (f ≡ g ⊞ h) × (n ≡ m + l)
     × P o x g m × Many c P (o + length x) y h l
 
 unfoldable pub Is : Script → Meaning

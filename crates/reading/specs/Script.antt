@@ -43,9 +43,9 @@ pub record Found : Type 0 where
 abbrev pub nothing : Found
 nothing = record { values = []; ranges = bare }
 
-infixr 40 ◌&&◌
-abbrev pub ◌&&◌ : Found → Found → Found
-a && b = record { values = a.values ++ b.values; ranges = a.ranges ⊕ b.ranges }
+infixr 40 ◌⊞◌
+abbrev pub ◌⊞◌ : Found → Found → Found
+a ⊞ b = record { values = a.values ++ b.values; ranges = a.ranges ⊕ b.ranges }
 
 -- the widths of a fixed block: none is under four bytes
 pub data Width : Type 0 where
