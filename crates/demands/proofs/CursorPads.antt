@@ -1,16 +1,16 @@
 -- The pads of what the cursor reads, and that they are those of the reading by the grammar. Assumes nothing.
 use Prim.Native.Nat.{ℕ, zero, suc, ◌+◌, ◌-◌, ◌≤◌, ◌<◌}
 use mathlib.Core.Logic.{◌⊎◌, inl, inr, ◌↔◌}
-use mathlib.Core.Path.{◌≡◌, refl, sym, ap, ◌∙◌, subst}
+use mathlib.Core.Path.{◌≡◌, sym, ap, ◌∙◌, subst}
 use mathlib.Core.List.{List, [], ◌++◌}
 use native.Mathlib.Omega.{arith}
 use lib.ListN.{length, take, length-append}
-use Rattle.reading.specs.Bytes.{padded, pads}
+use Rattle.reading.specs.Bytes.{padded}
 use Rattle.reading.specs.Script.{Span, Value, number, integer, octets, address, part, Found, Item, word, tested, long, int, block, opaque, string, Script, give, refuse, here, item, within, repeat}
 use Rattle.reading.specs.Cursor.{Place, Out, got, stop, Reader, read_opaque, read_item, times, held_to, inside, follow}
-use Rattle.reading.specs.Grammar.{Opaque, IsItem, Meaning, Many, Is}
+use Rattle.reading.specs.Grammar.{Opaque, IsItem, Many, Is}
 use Rattle.reading.proofs.Stands.{place, Stands, front, back, opaque_there, payload_there, held}
-use Rattle.reading.proofs.Complete.{Gives, complete_item, complete_many, complete}
+use Rattle.reading.proofs.Complete.{complete_item, complete_many, complete}
 use Rattle.demands.specs.Pads.{InPad, ItemPad, ManyPad, Pad}
 
 -- of what was given; a refusal has none

@@ -8,7 +8,7 @@ use native.Mathlib.Omega.{arith}
 use lib.Dec.{eqb}
 use lib.ListN.{length, take, drop, length-append, take-append-drop}
 use lib.Seq.{length-take-le}
-use Rattle.reading.specs.Script.{Value, number, Range, Forest, ◌⊕◌, Found, nothing, Item, word, Script, give, here, item, repeat}
+use Rattle.reading.specs.Script.{Value, number, Range, Forest, ◌⊕◌, Found, nothing, Item, Script, give, here, item, repeat}
 use Rattle.reading.specs.Grammar.{Opaque, IsItem, Many, Is}
 use Rattle.reading.specs.Layout.{Mode, num, Field, plain, mac, addr, list, segments, address_of, run_of, field, fields, Row, ◌⟼◌, ◌⟼◌each◌, last_number, opened, Fixed, fixed_rows, ranged, between, framed, pdu, flows, flow, counters, counter, samples, sample, header, datagram_to}
 use Rattle.reading.specs.Answer.{nobody, size, rows, one, run, payload}

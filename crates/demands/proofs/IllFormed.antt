@@ -3,13 +3,13 @@
 use Prim.Native.Nat.{ℕ, ◌+◌, ◌≤◌, ◌<◌}
 use mathlib.Core.Path.{◌≡◌, refl, sym, ap, ◌∙◌, subst}
 use mathlib.Core.Bool.{true, false}
-use mathlib.Core.List.{List, [], ◌∷◌, ◌++◌, append-nil}
+use mathlib.Core.List.{List, ◌++◌, append-nil}
 use native.Mathlib.Omega.{arith}
 use lib.ListN.{length, take, drop, length-append, length-drop}
 use lib.Seq.{take-add, take_at}
 use Rattle.reading.specs.Utf8.{utf8, Longest}
 use Rattle.reading.proofs.Utf8Longest.{text_joined}
-use Rattle.demands.specs.Abnf.{byte, ◌⨾◌, joined, first, second, none, more, UTF8Char, UTF8Octets}
+use Rattle.demands.specs.Abnf.{none, more, UTF8Char, UTF8Octets}
 use Rattle.demands.proofs.Characters.{test_by_rules, rules_by_test, char_bytes}
 
 no : true ≡ false → ⊥

@@ -1,7 +1,7 @@
 -- A string of one byte with three of pad: what the pad holds does not matter, and the byte before it does. Computed. Assumes nothing.
 use Prim.Native.Nat.{ℕ, ◌*◌}
 use mathlib.Core.Path.{◌≡◌, refl}
-use mathlib.Core.List.{List, [], ◌∷◌, ◌++◌}
+use mathlib.Core.List.{List, ◌∷◌, ◌++◌}
 use lib.ListN.{replicate}
 use Rattle.reading.specs.Sizes.{descriptor_words}
 use Rattle.reading.specs.Bytes.{be4}

@@ -11,8 +11,8 @@ use lib.Seq.{take-take, length-take-le}
 use Rattle.reading.specs.Utf8.{◌&◌}
 use Rattle.reading.specs.Script.{four, eight, sixteen, Value, octets, address, part, Range, Forest, bare, tree, ◌⊕◌, Found, nothing, Item, word, tested, block, Script, give, item, within, repeat}
 use Rattle.reading.specs.Cursor.{Place, Out, got, then, read_item, times, held_to, follow}
-use Rattle.reading.specs.Layout.{Mode, num, oct, Field, plain, mac, addr, list, segments, address_of, any_word, segment, run_of, field, fields, Row, ◌⟼◌, ◌⟼◌each◌, last_number, opened, Fixed, fixed_rows, only, ranged, framed, pdu, flows, flow, counters, counter, samples, sample, header, datagram_to, datagram}
-use Rattle.reading.specs.Sizes.{longest_input, descriptor_words, depth_limit}
+use Rattle.reading.specs.Layout.{Mode, num, oct, Field, plain, mac, addr, list, segments, address_of, any_word, segment, run_of, field, fields, Row, ◌⟼◌, ◌⟼◌each◌, last_number, opened, Fixed, fixed_rows, only, ranged, framed, pdu, flows, flow, counters, counter, samples, sample, header, datagram_to}
+use Rattle.reading.specs.Sizes.{longest_input, descriptor_words}
 use Rattle.reading.specs.Values.{alone, valued, reading}
 use Rattle.reading.specs.Answer.{from, nobody, size, room, one, unread, layout_at, layout_of, answered, read}
 use Rattle.reading.proofs.Items.{never}

@@ -13,7 +13,7 @@ use mir.Val.{Fits}
 use Rattle.reading.specs.Sizes.{longest_input, depth_limit}
 use Rattle.reading.specs.Bytes.{be4, padded}
 use Rattle.reading.specs.Script.{number, nothing, word, opaque, give}
-use Rattle.reading.specs.Cursor.{Out, got, read_item, times, follow}
+use Rattle.reading.specs.Cursor.{got, read_item, follow}
 use Rattle.reading.specs.Layout.{Mode, memo, plain, protocol, words, fields, opened, flows, flow}
 use Rattle.reading.specs.Answer.{layout_of}
 use Rattle.reading.proofs.Words.{numbers, row_got}

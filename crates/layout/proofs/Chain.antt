@@ -1,6 +1,6 @@
 -- How items read one after another make a layout: a law for each answer of `field`, and one that joins two of them. Assumes nothing.
 use mathlib.Core.Path.{◌≡◌, refl, ap, ◌∙◌, sym}
-use mathlib.Core.Bool.{Bool, true, false, cond}
+use mathlib.Core.Bool.{true}
 use mathlib.Core.List.{List, [], ◌∷◌, ◌++◌, append-nil}
 use Prim.Native.Nat.{ℕ, zero, suc, ◌+◌, ◌-◌, ◌*◌, ◌≤◌, ◌<◌}
 use native.Mathlib.Omega.{arith}
@@ -11,7 +11,7 @@ use lib.ListN.{length, take, drop, get_or, replicate, take-append-drop}
 use lib.Seq.{take-take}
 use Rattle.reading.specs.Bytes.{be4}
 use Rattle.reading.specs.Utf8.{well_formed_of}
-use Rattle.reading.specs.Script.{Width, six, eight, sixteen, Value, number, octets, part, nothing, Item, word, long, opaque, string}
+use Rattle.reading.specs.Script.{Width, eight, sixteen, Value, number, octets, part, nothing, Item, word, long, opaque, string}
 use Rattle.reading.specs.Cursor.{got, read_item, times, follow}
 use Rattle.reading.specs.Layout.{Field, plain, mac, any_word, words, bytes, Mode, memo, base, ethernet}
 use Rattle.reading.specs.Values.{zero_field, zeros, valued}

@@ -1,5 +1,7 @@
 // What the layouts of records and samples are made of: their fields one behind another, lists, and the frames that hold them. A layout is read
 // field by field (`field`), or passed with nothing kept of it (`pass`).
+#![tactic(auto)]
+
 pub mod field;
 pub mod frames;
 pub mod lists;

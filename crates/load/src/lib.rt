@@ -1,4 +1,6 @@
 // Numbers and blocks at a place of the bytes, where they are known to be there; and how far a pad goes.
+#![tactic(auto)]
+
 ghost use Rattle.std.specs.Prelude.{◌≡◌, ◌+◌, ◌^◌, ◌≤◌, ◌<◌, length, replicate};
 ghost use Rattle.reading.specs.Bytes.{be4, be8, signed, padded};
 ghost use Rattle.load.specs.Loaded.{octets_at, turned};

@@ -1,4 +1,6 @@
 // The numbers of sFlow that hold two parts in one 32-bit word, each a type of its own.
+#![tactic(auto)]
+
 ghost use Rattle.std.specs.Prelude.{◌≡◌, eqb};
 ghost use Rattle.numbers.specs.Split.{upper, lower, join};
 

@@ -1,5 +1,5 @@
 -- Where a frame lies. Assumes nothing.
-use Prim.Native.Nat.{ℕ, ◌+◌, ◌-◌, ◌≤◌}
+use Prim.Native.Nat.{ℕ, ◌+◌, ◌≤◌}
 use mathlib.Core.Path.{◌≡◌, sym, ap, ◌∙◌}
 use mathlib.Core.List.{List}
 use native.Mathlib.Omega.{arith}
@@ -8,7 +8,6 @@ use Rattle.reading.specs.Bytes.{be4}
 use Rattle.reading.specs.Script.{Span, Value, number, word}
 use Rattle.reading.specs.Cursor.{Place, got, read_opaque, read_item}
 use Rattle.reading.proofs.Items.{split, fixed_read, OpaqueRead, opaque_read}
-use Rattle.reading.proofs.Stands.{place}
 use Rattle.reading.proofs.Counts.{frame_at, framing, Framing}
 
 -- ---- where a frame lies

@@ -1,7 +1,7 @@
 -- The two modes: what is accepted with addresses of eight bytes is accepted with addresses of six, with the same ranges, the same steps and the same
 -- end. Assumes nothing.
 use Prim.Native.Nat.{ℕ, zero, suc, ◌+◌, ◌-◌, ◌≤◌}
-use mathlib.Core.Path.{◌≡◌, refl, sym, ap, ◌∙◌, subst}
+use mathlib.Core.Path.{◌≡◌, refl, sym, ap, ◌∙◌}
 use mathlib.Core.Bool.{Bool, true, false, cond}
 use mathlib.Core.List.{List, [], ◌∷◌, ◌++◌}
 use native.Mathlib.Omega.{arith}
@@ -9,15 +9,15 @@ use borrow.Author.Tests.{le-leb}
 use lib.Dec.{eqb}
 use lib.ListN.{length, take, drop}
 use Rattle.reading.specs.Bytes.{be4}
-use Rattle.reading.specs.Script.{six, eight, Span, Value, number, octets, Found, nothing, ◌⊞◌, word, block, Script, give, repeat}
-use Rattle.reading.specs.Cursor.{Place, Out, got, stop, Reader, then, on, fixed, read_opaque, read_item, times, held_to, inside, follow}
+use Rattle.reading.specs.Script.{six, Span, Value, number, octets, Found, nothing, word, Script, give, repeat}
+use Rattle.reading.specs.Cursor.{Place, Out, got, then, on, fixed, read_opaque, read_item, times, held_to, inside, follow}
 use Rattle.reading.specs.Layout.{num, oct, Field, plain, mac, words, bytes, fields, Row, ◌⟼◌, ◌⟼◌each◌, last_number, opened, only, ranged, framed, pdu, Mode, memo, base, ethernet, flows, flow, counter, samples, sample, header, datagram}
 use Rattle.reading.specs.Sizes.{depth_limit}
 use Rattle.reading.proofs.Items.{never, split, fixed_read}
 use Rattle.reading.proofs.Stands.{place}
 use Rattle.reading.proofs.Fields.{field_out, fields_out, fields_then}
 use Rattle.reading.proofs.Counts.{repeat_is}
-use Rattle.reading.proofs.Room.{whole, datagram_is}
+use Rattle.reading.proofs.Room.{datagram_is}
 
 -- what the first accepts, the second accepts: with the same found and the same steps, wherever it ends
 record Alike (x y : Script) : Type 0 where

@@ -12,7 +12,6 @@ use Rattle.reading.specs.Cursor.{Place, got, stop, Reader, then, on, read_item, 
 use Rattle.reading.specs.Layout.{Mode, Field, addr, fields, Row, last_number, opened, words, Fixed, fixed_rows, ranged, between, framed, pdu, flows, flow, counters, counter, samples, sample, header, datagram_to}
 use Rattle.reading.specs.Answer.{size}
 use Rattle.reading.proofs.Items.{never, split}
-use Rattle.reading.proofs.Stands.{place}
 use Rattle.reading.proofs.Bounds.{Owes, owes, owes_item}
 use Rattle.reading.proofs.Fields.{field_out, fields_out, fields_then}
 use Rattle.reading.proofs.Counts.{size_joined, repeat_is}

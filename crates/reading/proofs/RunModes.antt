@@ -1,6 +1,6 @@
 -- Runs in the two modes: the ranges of a run are those of the base mode's run over the bytes up to where it ended. Assumes nothing.
-use Prim.Native.Nat.{ℕ, zero, suc, ◌+◌, ◌≤◌, ◌<◌}
-use mathlib.Core.Path.{◌≡◌, refl, sym, ap, ◌∙◌, subst}
+use Prim.Native.Nat.{ℕ, zero, suc, ◌≤◌}
+use mathlib.Core.Path.{◌≡◌, refl, ap, ◌∙◌, subst}
 use mathlib.Core.Bool.{Bool, true, false, cond}
 use mathlib.Core.List.{List}
 use native.Mathlib.Omega.{arith}
@@ -9,7 +9,7 @@ use lib.Dec.{eqb, leb}
 use lib.ListN.{length, take}
 use lib.Seq.{length-take-le, take-take}
 use Rattle.reading.specs.Script.{◌⊕◌, Found, nothing}
-use Rattle.reading.specs.Cursor.{Place, Out, got, stop, then, follow}
+use Rattle.reading.specs.Cursor.{Place, Out, got, stop, follow}
 use Rattle.reading.specs.Layout.{Mode, base, only, datagram}
 use Rattle.reading.specs.Sizes.{depth_limit}
 use Rattle.reading.specs.Answer.{run_ender, tried, datagrams}
@@ -18,7 +18,7 @@ use Rattle.reading.proofs.Stands.{place}
 use Rattle.reading.proofs.Room.{last_place, datagram_on}
 use Rattle.reading.proofs.Exactly.{ended, longer}
 use Rattle.reading.proofs.Runs.{run_from, run_over, run_on, thrifty_datagrams}
-use Rattle.reading.proofs.Modes.{Same, in_base}
+use Rattle.reading.proofs.Modes.{in_base}
 
 -- the base mode's run over s up to where this one ended finds the same, and ends there; with the same steps, if that is the end of s
 pub record RunInBase (s : List ℕ) (p : Place) (a : Found) (q : Place) : Type 0 where

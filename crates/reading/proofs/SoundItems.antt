@@ -1,5 +1,5 @@
 -- An item that the cursor reads is one by the grammar. Assumes nothing.
-use Prim.Native.Nat.{ℕ, ◌+◌, ◌-◌, ◌≤◌}
+use Prim.Native.Nat.{ℕ, ◌+◌, ◌≤◌}
 use mathlib.Core.Path.{◌≡◌, refl, sym, ap, ◌∙◌}
 use mathlib.Core.Bool.{Bool, true, false, cond}
 use mathlib.Core.List.{List, ◌++◌}
@@ -15,7 +15,7 @@ use Rattle.reading.specs.Script.{octet_count, Span, Value, number, integer, octe
 use Rattle.reading.specs.Cursor.{Place, got, stop, on, fixed, bytes, ill_at, read_opaque, read_item}
 use Rattle.reading.specs.Grammar.{Opaque, IsItem}
 use Rattle.reading.proofs.Items.{never, split, fixed_read, OpaqueRead, opaque_read}
-use Rattle.reading.proofs.Stands.{place, Stands, be4_at, be4_here}
+use Rattle.reading.proofs.Stands.{Stands, be4_at, be4_here}
 
 -- n bytes that are there, cut out
 module _ (s : List ℕ) (o n : ℕ) (fits : o + n ≤ length s) where

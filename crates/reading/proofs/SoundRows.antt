@@ -1,5 +1,5 @@
 -- What a reader gives so many times over is so many of its meaning, end to end. Assumes nothing.
-use Prim.Native.Nat.{ℕ, zero, suc, ◌+◌, ◌-◌, ◌≤◌}
+use Prim.Native.Nat.{ℕ, zero, suc, ◌+◌, ◌≤◌}
 use mathlib.Core.Path.{◌≡◌, refl, sym, ap, ◌∙◌, subst}
 use mathlib.Core.List.{List, [], ◌++◌, append_assoc}
 use native.Mathlib.Omega.{arith}
@@ -10,7 +10,7 @@ use Rattle.reading.specs.Script.{Found, nothing}
 use Rattle.reading.specs.Cursor.{Place, got, Reader, times}
 use Rattle.reading.specs.Grammar.{Meaning, Many}
 use Rattle.reading.proofs.Items.{split}
-use Rattle.reading.proofs.Stands.{place, Stands}
+use Rattle.reading.proofs.Stands.{Stands}
 
 -- what a reader gave from p to q is a meaning's: the bytes between, and how many items they are
 pub record Read (P : Meaning) (s : List ℕ) (p : Place) (f : Found) (q : Place) : Type 0 where

@@ -6,7 +6,7 @@ use mathlib.Core.List.{List, [], ◌∷◌, ◌++◌, append_assoc, append-nil}
 use native.Mathlib.Omega.{arith}
 use borrow.Author.Tests.{leb-true, leb-false}
 use lib.Dec.{leb}
-use lib.ListN.{length, take, drop, length-append, length-drop, take-append-drop}
+use lib.ListN.{length, take, drop, length-drop, take-append-drop}
 use lib.Seq.{take_all, length-take-le, take-add, drop-length, drop-drop, drop-append-le}
 use Rattle.reading.specs.Utf8.{utf8_1, utf8_2, utf8_3, utf8_4, utf8, longest_to, well_formed_of, Longest}
 use Rattle.reading.proofs.Utf8.{width_4, width_3, width_2, width, width_length, ill_formed_of, past_width}

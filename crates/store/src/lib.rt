@@ -1,4 +1,6 @@
 // The store: a descriptor, its words by name, and where the next one goes. What writes descriptors writes them here.
+#![tactic(auto)]
+
 ghost use Rattle.std.specs.Prelude.{◌≡◌, ◌+◌, ◌/◌, ◌^◌, ◌≤◌, ◌<◌, length};
 ghost use Rattle.reading.specs.Answer.{row_of};
 ghost use Rattle.reading.specs.Sizes.{descriptor_words};

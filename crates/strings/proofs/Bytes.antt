@@ -8,7 +8,6 @@ use native.Mathlib.Numerals.{add-one}
 use borrow.Author.Tests.{leb-true, leb-false, le-leb, lt-leb}
 use lib.Dec.{leb}
 use lib.ListN.{length, drop, get_or}
-use lib.Seq.{drop-drop}
 use Rattle.reading.specs.Utf8.{◌&◌, among, tail, utf8_1, utf8_2, utf8_3, utf8_4}
 use Rattle.reading.proofs.Utf8.{pick, width, among_from, among_below, among_above, among_bounds, rows_3, rows_4, above_3, both}
 use Rattle.reading.proofs.Utf8Longest.{ends, sequence_on}

@@ -1,4 +1,6 @@
 // Strings: whether bytes are UTF-8, and where they cease to be, a character of the table (crate `utf8`) at a time.
+#![tactic(auto)]
+
 ghost use Rattle.std.specs.Prelude.{◌≡◌};
 ghost use Rattle.reading.specs.Utf8.{well_formed_of};
 

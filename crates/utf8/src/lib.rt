@@ -1,4 +1,6 @@
 // RFC 3629, section 4: the table of well-formed byte sequences, a test for each of its nine rows. `among(0xc2, 0xdf, a)` is its %xC2-DF.
+#![tactic(auto)]
+
 ghost use Rattle.std.specs.Prelude.{◌≡◌, ◌≤◌, length, drop};
 ghost use Rattle.reading.specs.Utf8.{tail};
 ghost use Rattle.reading.proofs.Utf8.{width};

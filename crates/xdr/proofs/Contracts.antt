@@ -5,7 +5,7 @@ use Prim.Native.Nat.{ℕ, ◌-◌}
 use mathlib.Core.Path.{◌≡◌}
 use mathlib.Core.List.{[], ◌∷◌, ◌++◌}
 use lib.ListN.{take, drop, replicate}
-use Rattle.reading.specs.Script.{octet_count, octets, word, long, int, opaque, string, nothing}
+use Rattle.reading.specs.Script.{octet_count, word, long, int, opaque, string, nothing}
 use Rattle.reading.specs.Cursor.{fixed, read_item, times, follow}
 use Rattle.reading.specs.Layout.{addr, any_word, bytes}
 use Rattle.reading.specs.Values.{reading}

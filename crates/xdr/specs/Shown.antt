@@ -1,5 +1,5 @@
 -- What this crate's cursor and answers are in terms of the reading. Assumes nothing.
-use Rattle.std.specs.Prelude.{ℕ, zero, suc, ◌+◌, ◌-◌, ◌*◌, ◌/◌, ◌%◌, ◌≤◌, ◌≡◌, cond, List, [], ◌∷◌, eqb, length, take, drop, get_or, replicate}
+use Rattle.std.specs.Prelude.{ℕ, ◌+◌, ◌-◌, ◌≤◌, ◌≡◌, cond, List, [], ◌∷◌, eqb, length, take, drop, replicate}
 use Rattle.reading.specs.Script as script
 use Rattle.reading.specs.Script.{octet_count, Value, number, integer, octets, address, bare}
 use Rattle.reading.specs.Cursor.{Place, Out, got, stop}

@@ -1,4 +1,6 @@
 // The items of RFC 4506 that an sFlow datagram is made of, read by a cursor that is handed over and handed back with each item.
+#![tactic(auto)]
+
 ghost use Rattle.std.specs.Prelude.{◌≡◌, ◌+◌, ◌^◌, ◌≤◌, ◌<◌};
 ghost use Rattle.xdr.specs.Shown.{refused, ill_formed_of, accepted, behind, passed_of};
 

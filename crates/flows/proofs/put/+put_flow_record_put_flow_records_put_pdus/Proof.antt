@@ -5,7 +5,7 @@ use Rattle.reading.specs.Layout.{base as base_mode, flow, pdu}
 use Rattle.store.proofs.Placing as placing
 use Rattle.flows.proofs.Placing as records
 use Prim.Native.Nat.{ℕ, ◌+◌, ◌*◌, ◌-◌}
-use borrow.Fn.PlainCycle.{Measures, falls}
+use borrow.Fn.PlainCycle.{Measures}
 use Rattle.store.proofs.Loops.{Places}
 use Rattle.flows.proofs.Cycles.{called_at, called_below}
 use Rattle.flows.proofs.put.put_flow_record.Reads as put-flow-record

@@ -8,7 +8,7 @@ use Rattle.layout.specs.Chain.{mode_of}
 use Rattle.layout.proofs.Chain.{within_start}
 use Rattle.layout.proofs.Scan as frames
 use Rattle.flows.proofs.Scanning as scan
-use borrow.Fn.PlainCycle.{Measures, falls, and}
+use borrow.Fn.PlainCycle.{Measures}
 use Rattle.layout.proofs.Loops.{Counts}
 use Rattle.flows.proofs.Cycles.{called_at, called_below}
 use Rattle.flows.proofs.scan.aggregation.Reads as aggregation

@@ -1,8 +1,6 @@
 -- Made by layouts/make from layouts/table.
-use mathlib.Core.Path.{refl}
 use Rattle.reading.specs.Layout.{counters}
 use Rattle.reading.specs.Answer.{layout_of}
-use Rattle.xdr.proofs.Rows.{same_numbers}
 use Rattle.counters.specs.Sizes.{sizes_of}
 use Rattle.counters.proofs.Reading.{fixed_read, reads}
 use Rattle.counters.proofs.polled.EthernetInterfaceCounters.parse.Statement.{statement}

@@ -4,7 +4,7 @@ use Rattle.reading.specs.Layout.{counters}
 use Rattle.reading.specs.Answer.{layout_of}
 use Rattle.xdr.proofs.Rows.{same_numbers}
 use Rattle.counters.specs.Sizes.{sizes_of}
-use Rattle.counters.proofs.Reading.{fixed_read, reads}
+use Rattle.counters.proofs.Reading.{reads}
 use Rattle.counters.proofs.polled.ProcessorCounters.load.Statement.{statement}
 use Rattle.counters.proofs.polled.ProcessorCounters.load.Tie as tie
 
