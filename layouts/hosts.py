@@ -1,10 +1,10 @@
 """What a C host links: a call for each layout, its proof, and that its contract settles what it answers."""
-from readers import MADE, antt, proof_text
+from readers import MADE, WIDEST, antt, imports, proof_text
 
 CALL = '''
-#[no_mangle]
+#[unsafe(no_mangle)]
 pub extern "C" fn latchplume_read_%(name)s(%(parameters)s) -> %(type)s
-    ensures { λ r. ⌜ answer-of (r .outcome) (%(shown)s r) ≡ read-at memo %(kind)d %(format)d (now (s .entry)) (now (d .entry)) ⌝ }
+    ensures { answer_of result.outcome (%(shown)s result) ≡ read_at memo %(kind)d %(format)d s.now d.now }
 {
     let asked = ask(s, d, %(kind)d, %(format)d);
     let passed = asked.passed;
@@ -12,40 +12,41 @@ pub extern "C" fn latchplume_read_%(name)s(%(parameters)s) -> %(type)s
 }
 '''
 BACK = '''
-pub %(dashed)s-lossless : Lossless (λ (r : %(type)s). answer-of (r .outcome) (%(dashed)s r))
-%(dashed)s-lossless = got-back (λ (x : Fields). record { outcome = outcome-of x; %(back)s }) (λ r. refl)
+pub %(name)s_lossless : Lossless (λ (r : %(type)s). answer_of r.outcome (%(name)s r))
+%(name)s_lossless = got_back (λ (x : Fields). record { outcome = outcome_of x; %(back)s }) (λ r. refl)
 '''
-SETTLED = '''  pub read-%(dashed)s-settled : Settles (call.%(file)s.latchplume_read_%(name)s.Reads.Learnt κs (s, (w, tt))) \
-(λ r. answer-of (r .outcome) (%(shown)s r)) (read-at memo %(kind)d %(format)d (now s) (now w))
-  read-%(dashed)s-settled = settled %(dashed)s-lossless
+SETTLED = '''  pub read_%(name)s_settled : Settles (call.%(file)s.latchplume_read_%(name)s.Reads.Learnt κs (s, (w, tt))) \
+(λ r. answer_of r.outcome (%(shown)s r)) (read_at memo %(kind)d %(format)d s.now w.now)
+  read_%(name)s_settled = settled %(name)s_lossless
 '''
 
 
 def said(layout):
     """What the texts say of a layout. The datagram's reader is written by hand, and has names of its own."""
     line = 'pub extern "C" fn latchplume_read_%s(s: &[u8], d: &Words) -> %s' % (layout.name, layout.type)
-    parameters = 's: &[u8], d: &Words' if len(line) <= 100 else '\n    s: &[u8],\n    d: &Words,\n'
-    return dict(vars(layout), parameters=parameters, shown='header-fields' if layout.by_hand else layout.dashed, mode=', Mode::Memo' * layout.modes)
+    parameters = 's: &[u8], d: &Words' if len(line) <= WIDEST else '\n    s: &[u8],\n    d: &Words,\n'
+    return dict(vars(layout), parameters=parameters, shown='header_fields' if layout.by_hand else layout.name, mode=', Mode::Memo' * layout.modes)
 
 
 def uses(layouts):
     """What shows these layouts, crate by crate."""
     for crate in sorted({one.crate for one in layouts}):
-        yield 'use Rattle·%s.specs.Shown.{%s}' % (crate, ', '.join(said(one)['shown'] for one in layouts if one.crate == crate))
+        yield 'use Rattle.%s.specs.Shown.{%s}' % (crate, ', '.join(said(one)['shown'] for one in layouts if one.crate == crate))
 
 
 def source(file, about, layouts):
     names = ['fields::ask::ask', 'fields::descriptor::Words', *('%s::%s::%s' % (one.crate, 'header' if one.by_hand else file, one.type) for one in layouts)]
     names += ['layout::field::Mode'] * any(one.modes for one in layouts)
-    lines = ['// ' + MADE, '// ' + about, 'ghost use mathlib.Core.Path.{_≡_};', 'ghost use Rattle·reading.specs.Layout.{memo};', 'ghost use Rattle·xdr.specs.Shown.{answer-of};',
-             *('ghost %s;' % line for line in uses(layouts)), 'ghost use Rattle·fields.specs.Shown.{read-at};', *('use %s;' % name for name in sorted(names))]
+    lines = ['// ' + MADE, '// ' + about, 'ghost use Rattle.std.specs.Prelude.{◌≡◌};', 'ghost use Rattle.reading.specs.Layout.{memo};',
+             'ghost use Rattle.xdr.specs.Shown.{answer_of};', *('ghost %s;' % line for line in uses(layouts)),
+             'ghost use Rattle.fields.specs.Shown.{read_at};', '', *imports(names)]
     return '\n'.join(lines) + '\n' + ''.join(CALL % said(one) for one in layouts)
 
 
 def proof(layout):
     """The proof of its call."""
     shown = [('search asked', name) for name in ('ask-requires', 'slice-aggregate-parse', 'parse-requires', 'returns')]
-    return proof_text('host', '%s.latchplume_read_%s' % (layout.file, layout.name), ['use Rattle·fields.proofs.Asking.{asked}'], '', shown)
+    return proof_text('host', '%s.latchplume_read_%s' % (layout.file, layout.name), ['use Rattle.fields.proofs.Asking.{asked}'], '', shown)
 
 
 def back(layout):
@@ -60,11 +61,11 @@ def back(layout):
 
 
 def lossless(layouts):
-    lines = ['use Rattle·%(crate)s.specs.declared.%(file)s.%(type)s.{%(type)s}' % vars(one) for one in layouts] + [*uses(layouts)]
+    lines = ['use Rattle.%(crate)s.specs.declared.%(file)s.%(type)s.{%(type)s}' % vars(one) for one in layouts] + [*uses(layouts)]
     return '\n'.join(lines) + '\n' + ''.join(BACK % dict(vars(one), back='; '.join(back(one))) for one in layouts) + '\n'
 
 
 def readings(layouts):
-    names = ', '.join(one.dashed + '-lossless' for one in layouts if not one.by_hand)
-    lines = [*uses(layouts), 'use Rattle·host·proofs.proofs.Lossless.{%s}' % names, '', 'module _ (κs s w : _) where']
+    names = ', '.join(one.name + '_lossless' for one in layouts if not one.by_hand)
+    lines = [*uses(layouts), 'use Rattle.host.proofs.Lossless.{%s}' % names, '', 'module _ (κs s w : _) where']
     return '\n'.join(lines) + '\n' + '\n'.join(SETTLED % said(one) for one in layouts) + '\n'

@@ -1,15 +1,16 @@
 """In Rattle: the readers, with what they show and their proofs, and the arms of the framing's table."""
 import re
+import textwrap
 
 MADE = 'Made by layouts/make from layouts/table.'
-LONGEST, BROADEST = 39, 60  # lines of a function; columns that `rt fmt` leaves to what is called with, and to a chain of calls
+LONGEST, WIDEST, BROADEST = 39, 100, 60  # lines of a function; columns that `rt fmt` leaves to a line, and to what is called with and to a chain of calls
 # Where what a reader may name comes from; and what its contracts may cite.
 USES = {'Address': 'xdr', 'Counted': 'layout::field', 'DataSource': 'numbers', 'DataSourceExpanded': 'crate::kinds', 'Interface': 'numbers',
         'InterfaceExpanded': 'crate::kinds', 'Network': 'crate::parts', 'Route': 'crate::parts', 'Mode': 'layout::field', 'Outcome': 'xdr', 'Passed': 'xdr', 'Span': 'xdr'}
-CITES = {'mathlib.Core.Path': '_≡_', 'mathlib.Core.List': '[] _∷_ _++_', 'Prim.Native.Nat': '_+_ _≤_', 'lib.ListN': 'length',
-         'Rattle·reading.specs.Script': 'long opaque sixteen', 'Rattle·reading.specs.Layout': 'addr bytes list mac memo plain protocol segments str words',
-         'Rattle·reading.specs.Values': 'zeros', 'Rattle·reading.specs.Answer': 'layout-of', 'Rattle·reading.proofs.Widths': 'numbers',
-         'Rattle·xdr.specs.Shown': 'Answers', 'Rattle·layout.specs.Chain': 'Within mode-of', 'Rattle·counters·specs.specs.Sizes': 'sizes-of'}
+CITES = {'std.specs.Prelude': '◌≡◌ [] ◌∷◌ ◌++◌ ◌+◌ ◌≤◌ length',
+         'reading.specs.Script': 'long opaque sixteen', 'reading.specs.Layout': 'addr bytes list mac memo plain protocol segments str words',
+         'reading.specs.Values': 'zeros', 'reading.specs.Answer': 'layout_of', 'reading.proofs.Widths': 'numbers',
+         'xdr.specs.Shown': 'Answers', 'layout.specs.Chain': 'Within mode_of', 'counters.specs.Sizes': 'sizes_of'}
 
 
 class Step:
@@ -45,7 +46,7 @@ def steps_of(layout):
 
 
 def antt(name):
-    return '«%s»' % name if '_' in name or name in ('data', 'module', 'record') else name
+    return '«%s»' % name if name in ('data', 'module', 'record') else name
 
 
 def literal(type, pairs, indent, before='', after=''):
@@ -63,8 +64,8 @@ def literal(type, pairs, indent, before='', after=''):
 def load(layout):
     """The lines of `load`: the fields of a fixed layout, each from its place."""
     fields = [('outcome', 'r')] + [(f.name, 'load::be%d(s, %s)' % (8 * f.shape.size, at)) for f, at in zip(layout.fields, layout.offsets())]
-    return ['    fn load(r: Outcome, s: &[u8]) -> %s' % layout.type, '        requires { ⌜ %d ≤ length (now s) ⌝ }' % layout.size,
-            '        ensures { λ a. ⌜ (a .outcome ≡ r) × (%s a ≡ numbers (sizes-of %d) (now (s .entry)) 0) ⌝ }' % (layout.dashed, layout.format),
+    return ['    fn load(r: Outcome, s: &[u8]) -> %s' % layout.type, '        requires { %d ≤ length s.now }' % layout.size,
+            '        ensures { (result.outcome ≡ r) × (%s result ≡ numbers (sizes_of %d) s.now 0) }' % (layout.name, layout.format),
             '    {', *literal(layout.type, fields, 8), '    }', '']
 
 
@@ -89,15 +90,15 @@ def parse(layout, stop):
     """The lines of `parse`, with these for a refusal."""
     read, got = fixed_lines(layout) if layout.fixed else step_lines(layout)
     got = got if 'Passed::Got' in got[0] else ['            Passed::Got(d) => {', *got, '            }']
-    mode, given = ('(mode-of mode)', ', mode: Mode') if layout.modes else ('memo', '')
-    answers = 'Answers (layout-of %s %d %d) (now (s .entry)) p (r .outcome) (%s r)' % (mode, layout.kind, layout.format, layout.dashed)
-    return ['    pub fn parse(p: Passed, s: &[u8]%s) -> %s' % (given, layout.type), '        requires { ⌜ Within (now s) p ⌝ }',
-            '        ensures { λ r. ⌜ %s ⌝ }' % answers, '    {', *read, '        match passed {', *stop, *got, '        }', '    }']
+    mode, given = ('(mode_of mode)', ', mode: Mode') if layout.modes else ('memo', '')
+    answers = 'Answers (layout_of %s %d %d) s.now p result.outcome (%s result)' % (mode, layout.kind, layout.format, layout.name)
+    return ['    pub fn parse(p: Passed, s: &[u8]%s) -> %s' % (given, layout.type), '        requires { Within s.now p }',
+            '        ensures { %s }' % answers, '    {', *read, '        match passed {', *stop, *got, '        }', '    }']
 
 
 def reader(layout):
     """The lines of a layout's struct and reader; and whether the zeros of a refusal are a function, `none`, lest `parse` be too long."""
-    lines = ['', '// Format %d: %s.' % (layout.format, layout.what), '#[repr(C)]', 'pub struct %s {' % layout.type, '    pub outcome: Outcome,']
+    lines = ['', '// Format %d: %s.' % (layout.format, layout.what), '#[repr(C)]', '#[derive(Clone, Copy)]', 'pub struct %s {' % layout.type, '    pub outcome: Outcome,']
     lines += ['    pub %s: %s,' % (f.name, f.shape.rust) for f in layout.fields] + ['}', '', 'impl %s {' % layout.type]
     zeros = [('outcome', 'r')] + [(f.name, f.shape.zero) for f in layout.fields]
     whole = parse(layout, literal(layout.type, zeros, 12, 'Passed::Stop(r) => ', ','))
@@ -106,34 +107,46 @@ def reader(layout):
     runs = ['words %d ++ ' % step.words if step.words else step.fields[0].shape.term + ' ∷ ' for step in map(Step, layout.runs())]
     term = re.sub(r' \+\+ $', '', ''.join(runs)) if runs[-1].startswith('words') else ''.join(runs) + '[]'
     lines += ['    fn none(r: Outcome) -> %s' % layout.type,
-              '        ensures { λ a. ⌜ (a .outcome ≡ r) × (%s a ≡ zeros (%s)) ⌝ }' % (layout.dashed, term), '    {', *literal(layout.type, zeros, 8), '    }', '']
+              '        ensures { (result.outcome ≡ r) × (%s result ≡ zeros (%s)) }' % (layout.name, term), '    {', *literal(layout.type, zeros, 8), '    }', '']
     lines += load(layout) if layout.fixed else []
     return lines + parse(layout, ['            Passed::Stop(r) => %s::none(r),' % layout.type]) + ['}'], True
 
 
 def needed(names, text):
     """Those of the names that the text has, each as a word."""
-    return [name for name in names if re.search(r'(?<![\w+-])%s(?![\w+-])' % re.escape(name.strip('_')), text)]
+    return [name for name in names if re.search(r'(?<![\w+-])%s(?![\w+-])' % re.escape(name.strip('◌')), text)]
+
+
+def imports(paths):
+    """The lines that name these, as `rt fmt` has them: sorted, a number by its value; those of one module together; a long line filled up."""
+    modules = {}
+    for path in sorted(paths, key=lambda path: [int(part) if part.isdigit() else part for part in re.split(r'(\d+)', path)]):
+        module, _, name = path.rpartition('::')
+        modules.setdefault(module or name, []).append(name if module else '')
+    for module, names in sorted(modules.items()):
+        line = 'use %s;' % '::'.join(filter(None, (module, '{%s}' % ', '.join(names) if len(names) > 1 else names[0])))
+        filled = textwrap.fill(', '.join(names) + ',', WIDEST, initial_indent='    ', subsequent_indent='    ')
+        yield line if len(line) <= WIDEST else 'use %s::{\n%s\n};' % (module, filled)
 
 
 def source(about, layouts):
     """A file of readers."""
     body = '\n'.join(line for layout in layouts for line in reader(layout)[0])
-    contracts = '\n'.join(line for line in body.splitlines() if '⌜' in line)
+    contracts = '\n'.join(line for line in body.splitlines() if line.lstrip().startswith(('requires {', 'ensures {')))
     cited = [(module, needed(names.split(), contracts)) for module, names in CITES.items()]
-    cited.append(('Rattle·%s·specs.specs.Shown' % layouts[0].crate, [one.dashed for one in layouts]))
-    uses = sorted((['crate::data', 'load'] if layouts[0].fixed else ['layout::field']) + ['%s::%s' % (USES[name], name) for name in needed(USES, body)])
-    lines = ['// ' + MADE, '// ' + about, *('ghost use %s.{%s};' % (module, ', '.join(names)) for module, names in cited if names)]
-    return '\n'.join(lines + ['use %s;' % name for name in uses]) + '\n' + body + '\n'
+    cited.append(('%s.specs.Shown' % layouts[0].crate, [one.name for one in layouts]))
+    uses = (['crate::data', 'load'] if layouts[0].fixed else ['layout::field']) + ['%s::%s' % (USES[name], name) for name in needed(USES, body)]
+    lines = ['// ' + MADE, '// ' + about, *('ghost use Rattle.%s.{%s};' % (module, ', '.join(names)) for module, names in cited if names)]
+    return '\n'.join([*lines, '', *imports(uses)]) + '\n' + body + '\n'
 
 
 def shown(layouts):
     """What the readers' structs are in terms of the reading."""
     body = ''
     for one in layouts:
-        paths = [(f.shape.shown, antt(f.name) + (' .' + antt(name) if name else '')) for f in one.fields for name in f.shape.words or ('',)]
-        body += '\nabbrev pub %s : %s → List Value\n%s r = %s ∷ []\n' % (one.dashed, one.type, one.dashed, ' ∷ '.join(show % path for show, path in paths))
-    return ''.join('use Rattle·%(crate)s·specs.specs.declared.%(file)s.%(type)s.{%(type)s}\n' % vars(one) for one in layouts) + body + '\n'
+        paths = [(f.shape.shown, antt(f.name) + ('.' + antt(name) if name else '')) for f in one.fields for name in f.shape.words or ('',)]
+        body += '\nabbrev pub %s : %s → List Value\n%s r = %s ∷ []\n' % (one.name, one.type, one.name, ' ∷ '.join(show % path for show, path in paths))
+    return ''.join('use Rattle.%(crate)s.specs.declared.%(file)s.%(type)s.{%(type)s}\n' % vars(one) for one in layouts) + body + '\n'
 
 
 def goals(pairs):
@@ -147,7 +160,7 @@ def goals(pairs):
 
 def proof_text(crate, function, uses, unfolding, shown):
     """The file that proves a function, with what it uses and unfolds, and what is shown."""
-    path, name = 'Rattle·%s·proofs.proofs.%s' % (crate, function), function.rpartition('.')[2].replace('_', '-') + '-spec'
+    path, name = 'Rattle.%s.proofs.%s' % (crate, function), function.rpartition('.')[2] + '_spec'
     lines = ['-- ' + MADE, *uses, 'use %s.Statement.{statement}' % path, 'use %s.Tie as tie' % path, '', 'pub %s : {M : Type 1} → statement M' % name]
     return '\n'.join(lines) + '\n%s%s =\n    tie.close\n    (tie.spec\n%s    )\n' % (unfolding, name, goals(shown))
 
@@ -161,39 +174,45 @@ def proofs(layout):
     shown += [('search steps', 'none-requires')] * apart + [('search steps', 'enum-known-passed')] + [('search places', 'load-words-requires')] * len(rows)
     shown += [('search steps', 'accepted-requires')] + [('search steps', 'array-read')] * sum(step.words for step in rows) + [('search rows', 'returns')] * 2
     table, laws = (None, 'samples', 'flows')[layout.kind], 'steps, %srows' % ('places, ' if rows else '')
-    uses = ['use Rattle·reading.specs.Layout.{%s}' % table, 'use Rattle·reading.specs.Answer.{layout-of}', 'use Rattle·layout.proofs.Chain.{%s}' % laws]
-    return [('parse', proof_text(layout.crate, '%s.%s.parse' % (layout.file, layout.type), uses, 'unfolding layout-of %s\n' % table, shown))]
+    uses = ['use Rattle.reading.specs.Layout.{%s}' % table, 'use Rattle.reading.specs.Answer.{layout_of}', 'use Rattle.layout.proofs.Chain.{%s}' % laws]
+    return [('parse', proof_text(layout.crate, '%s.%s.parse' % (layout.file, layout.type), uses, 'unfolding layout_of %s\n' % table, shown))]
 
 
 def fixed_proofs(layout):
     """Those of a fixed layout."""
-    uses = ['use mathlib.Core.Path.{refl}', 'use Rattle·reading.specs.Layout.{counters}', 'use Rattle·reading.specs.Answer.{layout-of}',
-            'use Rattle·xdr.proofs.Rows.{same-numbers}', 'use Rattle·counters·specs.specs.Sizes.{sizes-of}',
-            'use Rattle·counters·proofs.proofs.Reading.{fixed-read, reads}']
+    uses = ['use mathlib.Core.Path.{refl}', 'use Rattle.reading.specs.Layout.{counters}', 'use Rattle.reading.specs.Answer.{layout_of}',
+            'use Rattle.xdr.proofs.Rows.{same_numbers}', 'use Rattle.counters.specs.Sizes.{sizes_of}',
+            'use Rattle.counters.proofs.Reading.{fixed_read, reads}']
     names = 'read-requires enum-known-passed none-requires enum-known-passed accepted-requires sub-load part-load-start part-load-end load-requires returns'
-    loads, numbers = ['be%d-requires' % (8 * field.shape.size) for field in layout.fields], '(refl, search same-numbers depth 30)'
-    for name, shown, last in ('load', loads, numbers), ('parse', names.split(), 'search (fixed-read (sizes-of %d))' % layout.format):
+    loads, numbers = ['be%d-requires' % (8 * field.shape.size) for field in layout.fields], '(refl, search same_numbers depth 30)'
+    for name, shown, last in ('load', loads, numbers), ('parse', names.split(), 'search (fixed_read (sizes_of %d))' % layout.format):
         pairs = [('search reads', one) for one in shown] + [(last, 'returns')]
-        yield name, proof_text('counters', '%s.%s.%s' % (layout.file, layout.type, name), uses, 'unfolding layout-of sizes-of counters\n', pairs)
+        yield name, proof_text('counters', '%s.%s.%s' % (layout.file, layout.type, name), uses, 'unfolding layout_of sizes_of counters\n', pairs)
 
 
 def arm(layout):
     """How the framing passes a payload: an arm of its table."""
     if layout.fixed:
         return '        %d => Extent(%d, %d),\n' % (layout.format, layout.size, len(layout.fields))
-    calls = ['.' + Step(run).passed for run in layout.runs()] + ['.passed']
-    return '        %d => row%s,\n' % (layout.format, ('\n            ' if len('row' + ''.join(calls)) > BROADEST else '').join(calls))
+    chain = ['row', *('.' + Step(run).passed for run in layout.runs()), '.passed']
+    return '        %d => %s,\n' % (layout.format, ('\n            ' if len(''.join(chain)) > BROADEST else '').join(chain))
 
 
 def arms_proofs(layouts):
     """What each arm asks, and what it answers; the last one is that of a number of no row. Of fixed layouts: of what has their sizes, and their widths."""
     if not layouts[0].fixed:
         asked = [('search passing', step.passed.partition('(')[0] + '-requires') for one in layouts for step in map(Step, one.runs())]
-        return [('data/pass', goals(asked + [('search (arm %d, passing)' % one.format, 'returns') for one in layouts] + [('search raw', 'returns')]))]
-    asked = [('search (short-of %d, needs)' % one.format, name) for one in layouts for name in ('slice-aggregate-first-cut', 'first-cut-requires')]
-    cut = [('search needs', 'refusal-requires')] + [('search (cut-of %d, needs)' % one.format, 'returns') for one in layouts] + [('search (none-cut, none)', 'returns')]
-    sizes = [('search (bytes-of %d, items-of %d)' % (one.format, one.format), 'returns') for one in layouts] + [('search none', 'returns')]
-    return [('data/fixed', goals(sizes)), ('widths/cut', goals(asked + cut))]
+        return [('data/pass/Proof', goals(asked + [('search (arm %d, passing)' % one.format, 'returns') for one in layouts] + [('search raw', 'returns')]))]
+    sizes = [('search (bytes_of %d, items_of %d)' % (one.format, one.format), 'returns') for one in layouts] + [('search none', 'returns')]
+    return [('data/fixed/Proof', goals(sizes)), ('widths/cut/Answers', cut_answers(layouts))]
+
+
+def cut_answers(layouts):
+    """What is shown of each arm that goes through a fixed layout: that it is cut, a goal whose name lacks the first arm's number, and what it answers."""
+    bound, arms = 'first_cut-requires%s-clause-s_len_bound', ['-in-%d' % one.format for one in layouts]
+    shown = [(bound % (arm if i else ''), 'short_of %d' % one.format) for i, (one, arm) in enumerate(zip(layouts, arms))]
+    shown += [('returns' + arm, 'cut_of %d' % one.format) for one, arm in zip(layouts, arms)]
+    return ''.join('pub %s : goal.%s\nunfolding sizes_of counters\n%s c = search (%s, rules)\n\n' % (name, name, name, law) for name, law in shown)
 
 
 def cut_arm(layout):
@@ -207,7 +226,7 @@ def raw(layouts):
     """The law that a number of no row stays raw."""
     numbers = [layout.format for layout in layouts]
     shown = ('(mode : Mode) (s : List ℕ) (c : Cursor) ', 'got nothing (place c) ≡ follow (opened (flows mode (give nothing)) f) s (place c)', 'opened flows follow', 'mode s c ')
-    given, says, unfolds, names = ('', 'sizes-of f ≡ []', 'sizes-of counters', '') if layouts[0].fixed else shown
-    not_one, laws = ' '.join('z%d' % n for n in numbers), ', '.join('ne-eqb %d f (λ e. z%d (sym e))' % (n, n) for n in numbers)
+    given, says, unfolds, names = ('', 'sizes_of f ≡ []', 'sizes_of counters', '') if layouts[0].fixed else shown
+    not_one, laws = ' '.join('z%d' % n for n in numbers), ', '.join('ne_eqb %d f (λ e. z%d (sym e))' % (n, n) for n in numbers)
     lines = ['pub raw : %s(f : ℕ) → %s' % (given, ' → '.join('(f ≡ %d → ⊥)' % n for n in numbers)), '    → ' + says, 'unfolding ' + unfolds]
     return '\n'.join([*lines, 'raw %sf %s = simp (%s)' % (names, not_one, laws), '', ''])

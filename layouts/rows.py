@@ -28,7 +28,7 @@ def refuse(wrong, text, *values):
 class Layout:
     def __init__(self, kind, format, name):
         self.kind, self.format, self.name, self.fields, self.said = kind, format, name, [], {}
-        self.crate, self.dashed, self.fixed = CRATES[kind], name.replace('_', '-'), kind == 3
+        self.crate, self.fixed = CRATES[kind], kind == 3
         self.type = ''.join(part.capitalize() for part in name.split('_'))
 
     def runs(self, by=()):

@@ -13,17 +13,17 @@ Shape = namedtuple('Shape', 'rust zero words term local call value passed shown 
 
 def number(rust, words, term, call, c, tool, seen, about):
     zero = {1: '0' if words == ('',) else rust + '(0)', 2: (rust, [(word, '0') for word in words])}.get(len(words), '0')
-    return Shape(rust, zero, words, term, 'long' if rust == 'u64' else 'word', call + '(%s, s)', 'value', call + '(s)', 'number (r .%s)', 'word-at', c + ' %s',
+    return Shape(rust, zero, words, term, 'long' if rust == 'u64' else 'word', call + '(%s, s)', 'value', call + '(s)', 'number r.%s', 'word_at', c + ' %s',
                  tool, seen, 8 if rust == 'u64' else 4 * max(1, len(words)), about)
 
 
 def block(count, term, local, call, more, tool, seen, size, about):
     return Shape('[u8; %d]' % count, '[0u8; %d]' % count, (), term, local, '%s(%%s, s%s)' % (call, more), 'bytes', '%s(s%s)' % (call, more),
-                 'octets (r .%s)', 'bytes-at', 'uint8_t %%s[%d]' % count, tool, seen, size, about)
+                 'octets r.%s', 'bytes_at', 'uint8_t %%s[%d]' % count, tool, seen, size, about)
 
 
 def span(term, local, call, passed, tool, seen, about):
-    return Shape('Span', 'Span { start: 0, count: 0 }', (), term, local, call, 'span', passed, 'part (span (r .%s))', 'range-at', 'latchplume_span %s',
+    return Shape('Span', 'Span { start: 0, count: 0 }', (), term, local, call, 'span', passed, 'part (span r.%s)', 'range_at', 'latchplume_span %s',
                  tool, seen, 0, about)
 
 
@@ -42,7 +42,7 @@ SHAPES = {
     'mac': block(6, 'mac', 'mac', 'six', ', Mode::Memo', 'MAC', 'MAC', 8, '6 bytes, and 2 that are read over'),
     'sixteen': block(16, 'bytes sixteen', 'block', 'sixteen', '', 'IPV6', 'IPv6', 16, '16 bytes'),
     'address': Shape('Address', ('Address', [('kind', '0'), ('bytes', '[0u8; 16]')]), (), 'addr', 'address', 'address(%s, s)', 'address', 'address(s)',
-                     'an-address (r .%s)', 'address-at', 'latchplume_address %s', 'ADDRESS', 'address', 0, 'address: its type, and no byte, 4 or 16'),
+                     'an_address r.%s', 'address_at', 'latchplume_address %s', 'ADDRESS', 'address', 0, 'address: its type, and no byte, 4 or 16'),
     'string': span('str', 'text', 'text(%s, s)', 'text(s)', 'STRING', 'text', 'string: its length, its bytes, their pad'),
     'opaque': span('plain opaque', 'bytes', 'opaque(%s, s)', 'opaque(s)', 'BYTES', 'bytes', 'opaque: its length, its bytes, their pad'),
     'list': span('list', 'list', 'range(%s, s, Counted::List)', 'list(s)', 'LIST', None, 'list: how many words, and those'),

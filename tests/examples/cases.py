@@ -21,7 +21,7 @@ def named(body):
 
 def in_mode(body, call):
     """The call; of its own mode alone, where the other reads something else."""
-    return 'in-mode %s (%s)' % (body.mode, call) if body.name == 'sampled_ethernet' else call
+    return 'in_mode %s (%s)' % (body.mode, call) if body.name == 'sampled_ethernet' else call
 
 
 def accepted(body, note=''):
@@ -181,14 +181,14 @@ def list_words():
         yield Example('the word with index %d of a list of two, at byte 8' % i, call, [body.data.hex(' ', -4), 'present %s, value %s' % (there, number(value))])
 
 
-HEADER_NAMES = {'sub_agent_id': 'sub-agent', 'sequence_number': 'sequence', 'uptime': 'uptime', 'num_samples': 'sample-count'}
+HEADER_NAMES = {'sub_agent_id': 'sub_agent', 'sequence_number': 'sequence', 'uptime': 'uptime', 'num_samples': 'sample_count'}
 
 
 def head_of(body):
     """The header's record in the definitions."""
     names = [field for _, field in body.fields]
     agent = body.values[names.index('agent_address')]
-    said = ['address-type = %d' % {0: 0, 4: 1, 16: 2}[len(agent)], 'address = %s' % agent_bytes(agent)]
+    said = ['address_type = %d' % {0: 0, 4: 1, 16: 2}[len(agent)], 'address = %s' % agent_bytes(agent)]
     said += ['%s = %s' % (HEADER_NAMES[f], number(v)) for f, v in zip(names, body.values) if f in HEADER_NAMES]
     return 'record { %s }' % '; '.join(said)
 

@@ -4,7 +4,7 @@ from structures import START, Part, antt_list, number
 
 
 def antt_name(field):
-    return '«%s»' % field if '_' in field or field == 'data' else field
+    return '«%s»' % field if field == 'data' else field
 
 
 def grouped(pairs):
@@ -40,10 +40,6 @@ def camel(name):
     return ''.join(part.capitalize() for part in name.split('_'))
 
 
-def dashed(name):
-    return name.replace('_', '-')
-
-
 class Struct:
     """A record of a crate's struct: its name here, its type and the module of that, what shows it, and what it is of."""
 
@@ -53,55 +49,53 @@ class Struct:
 
 def read_struct(name, kind, module, shown, about, text):
     """One that a field reading answers."""
-    return Struct(name, kind, module, 'of-fields (answer-of (%s .outcome) (%s %s))' % (name, shown, name), about, text)
+    return Struct(name, kind, module, 'of_fields (answer_of %s.outcome (%s %s))' % (name, shown, name), about, text)
 
 
 def of_body(prefix, body):
-    return read_struct('%s-%d' % (prefix, body.format), camel(body.name), body.module, dashed(body.name), named(body), struct_of(body))
+    return read_struct('%s_%d' % (prefix, body.format), camel(body.name), body.module, body.name, named(body), struct_of(body))
 
 
 def crate_text(crate, about, structs, tables, uses, more='', unfolded=''):
     """A crate's file: the records one by one, and that they show what `reading` has for these tables of examples."""
     text = '-- Made by tests/examples/make, from the memo\'s structures: %s by the names of their fields, as the\n' % about
     text += '-- examples of `reading` have them. Assumes nothing.\n'
-    text += 'use mathlib.Core.Path.{_≡_, refl}\n'
-    text += 'use mathlib.Core.List.{List, [], _∷_%s, map}\n' % (', _++_' if len(tables) > 1 else '')
-    results = [r for r in ('of-fields', 'of-input', 'of-word') if any(r in s.result for s in structs)]
-    text += 'use Rattle·reading.specs.Examples.{Result, %s, Example, %s}\n' % (', '.join(results), ', '.join(tables)) + uses
+    text += 'use Rattle.std.specs.Prelude.{◌≡◌, refl, List, [], ◌∷◌%s, map}\n' % (', ◌++◌' if len(tables) > 1 else '')
+    results = [r for r in ('of_fields', 'of_input', 'of_word') if any(r in s.result for s in structs)]
+    text += 'use Rattle.reading.specs.Examples.{Result, %s, Example, %s}\n' % (', '.join(results), ', '.join(tables)) + uses
     for kind, module in dict.fromkeys((s.kind, s.module) for s in structs):
-        text += 'use Rattle·%s·specs.specs.declared.%s.%s.{%s}\n' % (crate, module, kind, kind)
+        text += 'use Rattle.%s.specs.declared.%s.%s.{%s}\n' % (crate, module, kind, kind)
     for s in structs:
         text += '\n-- %s\n%s : %s\n%s = %s\n' % (s.about, s.name, s.kind, s.name, s.text)
     text += '\n-- what they are in the terms of the reading\npub shown : List Result\nunfolding %s\nshown =\n' % ' '.join(s.name for s in structs)
     text += '\n'.join('    %s%s' % ('∷ ' if i else '', s.result) for i, s in enumerate(structs)) + '\n    ∷ []\n'
-    text += '\npub the-names-hold : shown ≡ map (λ (e : Example). e .result) %s\nunfolding shown %s\nthe-names-hold = refl\n' % (
+    text += '\npub the_names_hold : shown ≡ map (λ (e : Example). e.result) %s\nunfolding shown %s\nthe_names_hold = refl\n' % (
         '(%s)' % ' ++ '.join(tables) if len(tables) > 1 else tables[0], ' '.join(tables) + unfolded)
     return text + more
 
 
 def shown_uses(crate, names):
-    return 'use Rattle·xdr.specs.Shown.{answer-of}\nuse Rattle·%s·specs.specs.Shown.{%s}\n' % (crate, ', '.join(names))
+    return 'use Rattle.xdr.specs.Shown.{answer_of}\nuse Rattle.%s.specs.Shown.{%s}\n' % (crate, ', '.join(names))
 
 
 DESCRIPTOR = '''-- Made by tests/examples/make: a descriptor by the names of its fields, and its words in the store. Assumes nothing.
-use mathlib.Core.Path.{_≡_, refl}
-use mathlib.Core.List.{[], _∷_}
-use Rattle·reading.specs.Answer.{row-of}
-use Rattle·store·specs.specs.Written.{range-of}
-use Rattle·store·specs.specs.declared.Descriptor.{Descriptor}
+use Rattle.std.specs.Prelude.{◌≡◌, refl, [], ◌∷◌}
+use Rattle.reading.specs.Answer.{row_of}
+use Rattle.store.specs.Written.{range_of}
+use Rattle.store.specs.declared.Descriptor.{Descriptor}
 
-pub a-descriptor : Descriptor
-a-descriptor = record { kind = 11; format = record { 0 = 12 }; start = 13; length = 14; parent = 15; depth = 16; first = 17 }
+pub a_descriptor : Descriptor
+a_descriptor = record { kind = 11; format = record { 0 = 12 }; start = 13; length = 14; parent = 15; depth = 16; first = 17 }
 
-pub the-descriptor-holds : row-of (a-descriptor .parent) (range-of a-descriptor) ≡ 11 ∷ 12 ∷ 13 ∷ 14 ∷ 15 ∷ 16 ∷ 17 ∷ []
-unfolding a-descriptor
-the-descriptor-holds = refl
+pub the_descriptor_holds : row_of a_descriptor.parent (range_of a_descriptor) ≡ 11 ∷ 12 ∷ 13 ∷ 14 ∷ 15 ∷ 16 ∷ 17 ∷ []
+unfolding a_descriptor
+the_descriptor_holds = refl
 '''
 
 ASKED = '''
 -- a descriptor's words, as they are handed in: kind, format, start and length are what is asked
-pub the-descriptor-holds : (mode : Mode) (s : List ℕ) → read-at mode 1 2 s (11 ∷ 12 ∷ 13 ∷ 14 ∷ 15 ∷ 16 ∷ 17 ∷ []) ≡ read mode 1 2 s 11 12 13 14
-the-descriptor-holds mode s = refl
+pub the_descriptor_holds : (mode : Mode) (s : List ℕ) → read_at mode 1 2 s (11 ∷ 12 ∷ 13 ∷ 14 ∷ 15 ∷ 16 ∷ 17 ∷ []) ≡ read mode 1 2 s 11 12 13 14
+the_descriptor_holds mode s = refl
 '''
 
 
@@ -110,54 +104,53 @@ def store_text():
 
 
 def layout_text():
-    segment = read_struct('segment', 'Segment', 'lists', 'a-segment', 'a segment of an AS path',
+    segment = read_struct('segment', 'Segment', 'lists', 'a_segment', 'a segment of an AS path',
                           literal([outcome(START + 16, 4), ('kind', '1'), ('path', Part((START + 8, 2)).field())]))
-    return crate_text('layout', 'the segments of an AS path', [segment], ['segments'], shown_uses('layout', ['a-segment']))
+    return crate_text('layout', 'the segments of an AS path', [segment], ['segments'], shown_uses('layout', ['a_segment']))
 
 
 def flow_layouts_text():
     bodies = flow_bodies()
-    return crate_text('flow_layouts', 'the flow records', [of_body('flow', b) for b in bodies], ['flow-records'],
-                      shown_uses('flow_layouts', [dashed(b.name) for b in bodies]))
+    return crate_text('flow_layouts', 'the flow records', [of_body('flow', b) for b in bodies], ['flow_records_of'],
+                      shown_uses('flow_layouts', [b.name for b in bodies]))
 
 
 def counters_text():
     bodies = counter_bodies()
-    return crate_text('counters', 'the counter records', [of_body('counter', b) for b in bodies], ['counter-records'],
-                      shown_uses('counters', [dashed(b.name) for b in bodies]))
+    return crate_text('counters', 'the counter records', [of_body('counter', b) for b in bodies], ['counter_records'],
+                      shown_uses('counters', [b.name for b in bodies]))
 
 
 def samples_text():
     bodies = sample_bodies()
-    return crate_text('samples', 'the samples', [of_body('sample', b) for b in bodies], ['sample-fields'],
-                      shown_uses('samples', [dashed(b.name) for b in bodies]))
+    return crate_text('samples', 'the samples', [of_body('sample', b) for b in bodies], ['sample_fields'],
+                      shown_uses('samples', [b.name for b in bodies]))
 
 
 def datagram_text():
-    structs = [read_struct('header-%d' % b.data[7], 'Header', 'header', 'header-fields', 'a header with an address of type %d' % b.data[7], struct_of(b))
+    structs = [read_struct('header_%d' % b.data[7], 'Header', 'header', 'header_fields', 'a header with an address of type %d' % b.data[7], struct_of(b))
                for b in header_bodies()]
     for d in whole_datagrams():
-        name = 'decoded-%d' % d.head.data[7]
+        name = 'decoded_%d' % d.head.data[7]
         pairs = [('answer', answer_of(d)), *((f, v.field()) for (_, f), v in zip(d.head.fields, d.head.values) if f != 'version')]
-        structs.append(Struct(name, 'Decoded', 'decode', 'of-input (decoded %s %s)' % (name, d.words()),
+        structs.append(Struct(name, 'Decoded', 'decode', 'of_input (decoded %s %s)' % (name, d.words()),
                               'a datagram whose agent has an address of type %d' % d.head.data[7], literal(pairs)))
-    for d, name, about in ((whole_datagrams()[0], 'ran-1', 'the first of these as a run'), (ended_run(), 'ran-2', 'a run that ends in the middle of a header')):
-        structs.append(Struct(name, 'Answer', 'decode', 'of-input (ran %s %s)' % (name, d.words()), about, answer_of(d)))
+    for d, name, about in ((whole_datagrams()[0], 'ran_1', 'the first of these as a run'), (ended_run(), 'ran_2', 'a run that ends in the middle of a header')):
+        structs.append(Struct(name, 'Answer', 'decode', 'of_input (ran %s %s)' % (name, d.words()), about, answer_of(d)))
     return crate_text('datagram', "a datagram's header and the answers to the calls", structs, ['headers', 'inputs'],
-                      'use Rattle·reading.specs.Answer.{header-of, no-header}\n' + shown_uses('datagram', ['header-fields', 'decoded', 'ran']),
-                      unfolded=' header-of no-header')
+                      'use Rattle.reading.specs.Answer.{header_of, no_header}\n' + shown_uses('datagram', ['header_fields', 'decoded', 'ran']),
+                      unfolded=' header_of no_header')
 
 
 def fields_text():
-    structs = [Struct('listed-%d' % i, 'Listed', 'lists', 'of-word (listed listed-%d)' % i, 'the word with index %d of a list of two' % i,
+    structs = [Struct('listed_%d' % i, 'Listed', 'lists', 'of_word (listed listed_%d)' % i, 'the word with index %d of a list of two' % i,
                       literal([('present', str(there).lower()), ('value', number(value))])) for i, there, value in LISTED]
-    uses = '''use Rattle·reading.specs.Layout.{Mode}
-use Rattle·reading.specs.Answer.{read}
-use Rattle·fields·specs.specs.Shown.{read-at, listed}
+    uses = '''use Rattle.reading.specs.Layout.{Mode}
+use Rattle.reading.specs.Answer.{read}
+use Rattle.fields.specs.Shown.{read_at, listed}
 '''
-    text = crate_text('fields', 'a word of a list, and what is asked of a descriptor,', structs, ['list-words'], uses, ASKED)
-    return text.replace('use mathlib.Core.Path', 'use Prim.Native.Nat.{ℕ}\nuse mathlib.Core.Path').replace(
-        'use mathlib.Core.List', 'use mathlib.Core.Bool.{true, false}\nuse mathlib.Core.List', 1)
+    text = crate_text('fields', 'a word of a list, and what is asked of a descriptor,', structs, ['list_words'], uses, ASKED)
+    return text.replace('{◌≡◌, refl, List', '{ℕ, ◌≡◌, refl, true, false, List')
 
 
 def answer_of(d):
