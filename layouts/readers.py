@@ -180,14 +180,14 @@ def proofs(layout):
 
 def fixed_proofs(layout):
     """Those of a fixed layout."""
-    uses = ['use mathlib.Core.Path.{refl}', 'use Rattle.reading.specs.Layout.{counters}', 'use Rattle.reading.specs.Answer.{layout_of}',
-            'use Rattle.xdr.proofs.Rows.{same_numbers}', 'use Rattle.counters.specs.Sizes.{sizes_of}',
-            'use Rattle.counters.proofs.Reading.{fixed_read, reads}']
+    of_both = ['use Rattle.reading.specs.Layout.{counters}', 'use Rattle.reading.specs.Answer.{layout_of}', 'use Rattle.counters.specs.Sizes.{sizes_of}']
+    uses = {'load': ['use mathlib.Core.Path.{refl}', *of_both[:2], 'use Rattle.xdr.proofs.Rows.{same_numbers}', of_both[2], 'use Rattle.counters.proofs.Reading.{reads}'],
+            'parse': [*of_both, 'use Rattle.counters.proofs.Reading.{fixed_read, reads}']}
     names = 'read-requires enum-known-passed none-requires enum-known-passed accepted-requires sub-load part-load-start part-load-end load-requires returns'
     loads, numbers = ['be%d-requires' % (8 * field.shape.size) for field in layout.fields], '(refl, search same_numbers depth 30)'
     for name, shown, last in ('load', loads, numbers), ('parse', names.split(), 'search (fixed_read (sizes_of %d))' % layout.format):
         pairs = [('search reads', one) for one in shown] + [(last, 'returns')]
-        yield name, proof_text('counters', '%s.%s.%s' % (layout.file, layout.type, name), uses, 'unfolding layout_of sizes_of counters\n', pairs)
+        yield name, proof_text('counters', '%s.%s.%s' % (layout.file, layout.type, name), uses[name], 'unfolding layout_of sizes_of counters\n', pairs)
 
 
 def arm(layout):

@@ -1,1 +1,3 @@
 pub mod Contracts
+pub mod Lossless
+pub mod Masks

@@ -1,3 +1,1 @@
 pub mod Split
-pub mod Lossless
-pub mod Masks

@@ -9,7 +9,7 @@ use lib.ListN.{length, take}
 use mir.Syntax.{w64}
 use mir.Val.{Fits}
 use Rattle.reading.specs.Sizes.{depth_limit}
-use Rattle.reading.specs.Script.{Value, nothing, word, Script, give, repeat}
+use Rattle.reading.specs.Script.{Value, word, Script, give, repeat}
 use Rattle.reading.specs.Cursor.{Out, got, times, follow}
 use Rattle.reading.specs.Bytes.{be4}
 use Rattle.reading.specs.Layout.{Mode, Field, plain, fields, words, widths, total, fixed_rows, counters, last_number, opened, framed, flow, counter, samples, sample}
@@ -22,7 +22,7 @@ use Rattle.xdr.specs.declared.Outcome.{Outcome}
 use Rattle.xdr.specs.declared.Span.{Span}
 use Rattle.xdr.specs.declared.Passed.{Passed}
 use Rattle.xdr.specs.declared.Passed.TheVariants as passed
-use Rattle.xdr.specs.Shown.{place, Inside, refusal, passed_out}
+use Rattle.xdr.specs.Shown.{place, Inside, refusal}
 use Rattle.xdr.proofs.Rows.{row_forward}
 use Rattle.layout.specs.declared.frames.Frame.{Frame}
 use Rattle.layout.specs.declared.frames.Frame.TheVariants as frame

@@ -5,7 +5,7 @@ use Rattle.std.proofs.Common.{sym, mod-lt, pow_pos}
 use Rattle.std.specs.Int.Bits.{bit_and, bit_or}
 use Rattle.std.proofs.lemmas.Nat.{and_mask, or_shifted}
 use Rattle.numbers.specs.Split.{lower, join}
-use Rattle.numbers.specs.Lossless.{shifted}
+use Rattle.numbers.proofs.Lossless.{shifted}
 
 pub lower_masks : (k w : ℕ) → lower k w ≡ bit_and w (2 ^ k - 1)
 lower_masks k w = sym (and_mask w k)
