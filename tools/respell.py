@@ -21,6 +21,10 @@ QUIET = re.compile(r'"(?:[^"\\\n]|\\.)*"|(?<![^\s(){}.;,@"«»])--[^\n]*|//[^\n]
 OUTSIDE = re.compile(r"^\s*(?:pub )?(?:ghost )?use (?!Rattle\.(?:%s)\.)[^\n]*?\{([^}]*)\}", re.M)
 
 
+# Other names that imports give, and names of arguments.
+OTHER_NAMES = """base-mode a-count a-long a-mode a-part is-part in-it script-behind long-fields fields-whole fields-faulty run-whole run-faulty
+asked-kind asked-format""".split()
+
 # A definition that has the name of a function, of whose answer it speaks.
 SAME_AS_A_FUNCTION = {"whole-span", "payload-span", "list-word", "well-formed", "ill-formed", "flow-records"}
 
@@ -55,7 +59,7 @@ def main():
     crates = sorted(p.name for p in (top / "crates").iterdir() if p.is_dir())
     outside = re.compile(OUTSIDE.pattern % "|".join(crates), re.M)
     files = [p for p in sorted(top.glob("crates/**/*")) if p.suffix in (".rt", ".antt", ".edit") and "out" not in p.parts]
-    own = {"base-mode"}  # an import's other name
+    own = set(OTHER_NAMES)
     for p in files:
         rest = p.parts[2:]
         if p.suffix == ".antt" and (rest[0] == "specs" or rest[0] == "proofs" and len(rest) == 2):

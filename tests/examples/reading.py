@@ -97,7 +97,7 @@ refuses k f ws l c a n vs = record {
 }
 
 -- the same of a descriptor of this kind and format, which may be others than those asked for
-mistakes : (asked-kind asked-format kind format : ℕ) → (words : List ℕ) → (extent code at steps : ℕ) → List Value → Example
+mistakes : (asked_kind asked_format kind format : ℕ) → (words : List ℕ) → (extent code at steps : ℕ) → List Value → Example
 unfolding around
 mistakes ak af k f ws l c a n vs = record {
   call = λ mode s. of_fields (read mode ak af s k f %(start)d l);

@@ -1,5 +1,5 @@
 -- The answer to a reading: a law for each way out of `decode` and of `decode_run`, with the facts that the code has there. Assumes nothing.
-use Prim.Native.Nat.{ℕ, ◌+◌, ◌*◌, ◌/◌, ◌≤◌, ◌<◌}
+use Prim.Native.Nat.{ℕ, ◌+◌, ◌*◌, ◌≤◌, ◌<◌}
 use mathlib.Core.Bool.{Bool, true, false, cond}
 use mathlib.Core.Path.{◌≡◌, refl, sym, ap, ◌∙◌, subst}
 use mathlib.Core.List.{List, [], ◌∷◌, ◌++◌}
@@ -18,7 +18,7 @@ use Rattle.reading.specs.Sizes.{descriptor_words, longest_input, depth_limit}
 use Rattle.reading.proofs.Items.{never, split}
 use Rattle.reading.proofs.Room.{whole, thrifty_datagram, datagram_on}
 use Rattle.reading.proofs.Runs.{run_from, thrifty_run}
-use Rattle.reading.proofs.Modes.{Same, in_base}
+use Rattle.reading.proofs.Modes.{in_base}
 use Rattle.reading.proofs.RunModes.{RunInBase, run_in_base}
 use Rattle.reading.proofs.Counts.{counted}
 use Rattle.reading.proofs.Words.{numbers}

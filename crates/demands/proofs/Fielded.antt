@@ -24,10 +24,10 @@ use Rattle.reading.proofs.Stands.{place, drop_take}
 use Rattle.reading.proofs.Fields.{fields_then}
 use Rattle.reading.proofs.Sound.{sound}
 use Rattle.reading.proofs.SoundRows.{Read}
-use Rattle.reading.proofs.Holding.{has_row, more_at, read_here, behind as script-behind, up_to}
+use Rattle.reading.proofs.Holding.{has_row, more_at, read_here, behind as script_behind, up_to}
 use Rattle.reading.proofs.Descriptors.{Among, this, inside, later, gave, ReadAs, descriptor, stands_in, field_reading_accepts, run_reading_accepts}
 use Rattle.demands.specs.FieldsItemised.{only_values}
-use Rattle.demands.specs.DescriptorFields.{range, has_fields, more_of, follows, StandsIn, this as here_it, inside as in-it, later as behind_it, FieldsAre, AllFields}
+use Rattle.demands.specs.DescriptorFields.{range, has_fields, more_of, follows, StandsIn, this as here_it, inside as in_it, later as behind_it, FieldsAre, AllFields}
 use Rattle.demands.proofs.Pieces.{behind}
 
 -- ---- what is meant is what is proved
@@ -65,8 +65,8 @@ more_is : (rows : List Row) (f : ℕ) → more_at rows f ≡ more_of rows f
 more_is [] f = refl
 more_is (r ∷ rest) f = ap (λ (m : List Value → Script). cond (eqb r.format f) r.more m) (more_is rest f)
 
-follows_is : (mode : Mode) (kind format depth : ℕ) (vs : List Value) → script-behind mode kind format depth vs ≡ follows mode kind format depth vs
-unfolding script-behind follows
+follows_is : (mode : Mode) (kind format depth : ℕ) (vs : List Value) → script_behind mode kind format depth vs ≡ follows mode kind format depth vs
+unfolding script_behind follows
 follows_is mode zero f d vs = refl
 follows_is mode (suc zero) f d vs = ap (λ (m : List Value → Script). m vs) (more_is (samples mode depth_limit) f)
 follows_is mode (suc (suc zero)) f d vs = ap (λ (m : List Value → Script). m vs) (more_is (flows mode (pdu d (flow mode depth_limit (depth_limit - d)))) f)
@@ -75,7 +75,7 @@ follows_is mode (suc (suc (suc (suc k)))) f d vs = refl
 
 among_stands : {r : Range} {inner g : Forest} → Among r inner g → StandsIn r inner g
 among_stands this = here_it
-among_stands (inside m) = in-it (among_stands m)
+among_stands (inside m) = in_it (among_stands m)
 among_stands (later m) = behind_it (among_stands m)
 
 module _ (mode : Mode) (s : List ℕ) (g : Forest) (r : Range) where
@@ -84,7 +84,7 @@ module _ (mode : Mode) (s : List ℕ) (g : Forest) (r : Range) where
 
   fields_from : {inner : Forest} → Among r inner g → (a : ReadAs mode s r inner)
       → Read (Is own) (up_to s r) (from r.span.start) (only_values a.values) a.holds.next
-      → Read (Is (script-behind mode r.kind r.format r.depth a.values)) (up_to s r) a.holds.next a.holds.found a.holds.last → FieldsAre mode s g r
+      → Read (Is (script_behind mode r.kind r.format r.depth a.values)) (up_to s r) a.holds.next a.holds.found a.holds.last → FieldsAre mode s g r
   fields_from {inner} m a f t =
       let x = r.span.start in
       let z : a.holds.next ≡ place (x + length f.read) f.items = λ i. record { at = f.at i; steps = (f.steps ∙ zero-add f.items) i } in
@@ -104,7 +104,7 @@ module _ (mode : Mode) (s : List ℕ) (g : Forest) (r : Range) where
         more = t.items;
         holds =
             subst (λ (c : Script). Is c (x + length f.read) t.read a.holds.found t.items) (follows_is mode r.kind r.format r.depth a.values)
-            (subst (λ (j : ℕ). Is (script-behind mode r.kind r.format r.depth a.values) j t.read a.holds.found t.items) f.at t.is);
+            (subst (λ (j : ℕ). Is (script_behind mode r.kind r.format r.depth a.values) j t.read a.holds.found t.items) f.at t.is);
         ranges = a.holds.ranges;
       }
 
@@ -116,7 +116,7 @@ module _ (mode : Mode) (s : List ℕ) (g : Forest) (r : Range) where
       let e : follow own (up_to s r) (from x) ≡ got (only_values a.values) a.holds.next = fields_then (layout_of mode r.kind r.format) _ (up_to s r) (from x) ∙ rw a.holds.fields.reads in
       let f = sound own (up_to s r) (from x) (only_values a.values) a.holds.next (omega (arith, l)) e in
       fields_from m a f
-      (sound (script-behind mode r.kind r.format r.depth a.values) (up_to s r) a.holds.next a.holds.found a.holds.last (rw f.at f.stands.fits) a.holds.rest)
+      (sound (script_behind mode r.kind r.format r.depth a.values) (up_to s r) a.holds.next a.holds.found a.holds.last (rw f.at f.stands.fits) a.holds.rest)
 
 -- each descriptor of a store in which the rows of g stand, if it has fields
 each : (mode : Mode) (s : List ℕ) (g : Forest) (rest : List ℕ) → ((r : Range) (inner : Forest) → Among r inner g → read_here r.kind r.format ≡ true → ReadAs mode s r inner) → AllFields mode s g (rows 0 nobody g ++ rest)

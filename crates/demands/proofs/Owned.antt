@@ -13,8 +13,8 @@ use Rattle.reading.specs.Answer.{one, run, layout_of, Fields, read}
 use Rattle.demands.specs.Stops.{Stops, barred, standing, no_item, not_text, past_item, no_opaque, inside_it, past_it, among, past_all}
 use Rattle.demands.specs.Readings.{Allowed}
 use Rattle.demands.specs.Tries.{Run, over, next, cut, RunStops, this, later}
-use Rattle.demands.specs.FieldsItemised.{only_values, read_whole, stopped_at, FieldsItemised, too_long as long-fields, passes, other, held}
-use Rattle.demands.specs.Owned.{firsts_of_many, firsts, firsts_before, firsts_of, run_firsts, run_firsts_before, Apart, none, and, Own, Counted, too_long, faulty, whole, RunCounted, too_long as run_long, faulty as run-faulty, whole as run-whole, FieldsCounted, not_read, faulty as fields-faulty, whole as fields-whole}
+use Rattle.demands.specs.FieldsItemised.{only_values, read_whole, stopped_at, FieldsItemised, too_long as long_fields, passes, other, held}
+use Rattle.demands.specs.Owned.{firsts_of_many, firsts, firsts_before, firsts_of, run_firsts, run_firsts_before, Apart, none, and, Own, Counted, too_long, faulty, whole, RunCounted, too_long as run_long, faulty as run_faulty, whole as run_whole, FieldsCounted, not_read, faulty as fields_faulty, whole as fields_whole}
 use Rattle.demands.proofs.Enclosed.{opaque_long}
 use Rattle.demands.proofs.Itemised.{by_items}
 use Rattle.demands.proofs.Accepted.{one_reads}
@@ -179,7 +179,7 @@ module _ (mode : Mode) (s w : List ℕ) where
   pub run_owns : (at : List ℕ) × RunCounted mode s at × Own 0 (length s) (run mode s w).steps at
   run_owns =
       by_items (run_reads mode) (λ n. (at : List ℕ) × RunCounted mode s at × Own 0 (length s) n at) s w (λ h. ([], run_long h, no_more (omega arith) refl))
-      (λ c i n t. (run_firsts_before t, run-faulty t, own_run_before mode s t)) (λ g end n t. (run_firsts t, run-whole t, own_run mode s t))
+      (λ c i n t. (run_firsts_before t, run_faulty t, own_run_before mode s t)) (λ g end n t. (run_firsts t, run_whole t, own_run mode s t))
 
 module _ (mode : Mode) (ak af : ℕ) (s : List ℕ) (k f start extent : ℕ) where
   pub fields_own : (at : List ℕ) × FieldsCounted mode ak af s k f start extent at × Own start (start + extent) (read mode ak af s k f start extent).steps at
@@ -189,13 +189,13 @@ module _ (mode : Mode) (ak af : ℕ) (s : List ℕ) (k f start extent : ℕ) whe
       l = omega (arith, length-take extent (drop start s))
 
       go : (a : Fields) → FieldsItemised mode ak af s k f start extent a → (at : List ℕ) × FieldsCounted mode ak af s k f start extent at × Own start (start + extent) a.steps at
-      go a (long-fields h e) = ([], not_read (λ x y u v. omega arith), no_more (omega arith) (ap (λ (b : Fields). b.steps) e))
+      go a (long_fields h e) = ([], not_read (λ x y u v. omega arith), no_more (omega arith) (ap (λ (b : Fields). b.steps) e))
       go a (passes h i e) = ([], not_read (λ x y u v. omega arith), no_more (omega arith) (ap (λ (b : Fields). b.steps) e))
       go a (other h i n e) = ([], not_read (λ x y u v. n (u, v)), no_more (omega arith) (ap (λ (b : Fields). b.steps) e))
-      go a (held h i x y (stopped_at c j n t e)) = (firsts_before t, fields-faulty t, as_many (ap (λ (b : Fields). b.steps) e) (widen (start + extent) (omega (arith, l)) (own_before t)))
+      go a (held h i x y (stopped_at c j n t e)) = (firsts_before t, fields_faulty t, as_many (ap (λ (b : Fields). b.steps) e) (widen (start + extent) (omega (arith, l)) (own_before t)))
       go a (held h i x y (read_whole vs bytes items r e)) =
           let z = ap length r.joined in (
             _,
-            fields-whole r,
+            fields_whole r,
             as_many (ap (λ (b : Fields). b.steps) e) (widen (start + extent) (omega (arith, l, simp length-append at z)) (own (alone (layout_of mode ak af)) start r.read (only_values vs) items r.is)),
           )

@@ -1,6 +1,7 @@
 // What a C host links: the field readings, each by the reader of its layout; and the other calls under plain names, with the contracts that they have in
 // `datagram` and `fields`.
 #![tactic(auto)]
+
 ghost use Rattle.std.specs.Prelude.{◌≡◌};
 ghost use Rattle.reading.specs.Layout.{memo};
 ghost use Rattle.reading.specs.Answer.{one, run};

@@ -1,6 +1,7 @@
 // What a C host links to compare with the crate: the calls that read a sampled Ethernet record, in the base mode. They are compiled apart from those
 // of `host`, so that each has its mode as a number that the compiler knows.
 #![tactic(auto)]
+
 ghost use Rattle.std.specs.Prelude.{◌≡◌};
 ghost use Rattle.reading.specs.Layout.{base};
 ghost use Rattle.reading.specs.Answer.{one, run};

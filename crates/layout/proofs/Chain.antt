@@ -25,10 +25,10 @@ use Rattle.xdr.specs.declared.Passed.TheVariants as passed
 use Rattle.xdr.specs.declared.Word.{Word}
 use Rattle.xdr.specs.declared.Word.TheVariants as a_word
 use Rattle.xdr.specs.declared.Long.{Long}
-use Rattle.xdr.specs.declared.Long.TheVariants as a-long
+use Rattle.xdr.specs.declared.Long.TheVariants as a_long
 use Rattle.xdr.specs.declared.Span.{Span}
 use Rattle.xdr.specs.declared.Part.{Part}
-use Rattle.xdr.specs.declared.Part.TheVariants as a-part
+use Rattle.xdr.specs.declared.Part.TheVariants as a_part
 use Rattle.xdr.specs.declared.Block.{Block}
 use Rattle.xdr.specs.Shown.{place, Inside, Reads, Answers, accepted, IsBlock, span, refusal, word_out, long_out, part_out, passed_out}
 use Rattle.xdr.proofs.Laws.{string_got}
@@ -160,10 +160,10 @@ module _ (s : List ℕ) {p : Passed} (c : Cursor) (h : p ≡ passed.Got c) {w : 
   no_word e = rw h (item_halts word s c (rw e at f))
 
 module _ (s : List ℕ) {p : Passed} (c : Cursor) (h : p ≡ passed.Got c) {w : Long} (f : long_out w ≡ read_item long s (place c)) where
-  pub then_long : {v : ℕ} {d : Cursor} → Inside s c → w ≡ a-long.Got v d → Then (plain long ∷ []) s p (passed.Got d) (number v ∷ [])
+  pub then_long : {v : ℕ} {d : Cursor} → Inside s c → w ≡ a_long.Got v d → Then (plain long ∷ []) s p (passed.Got d) (number v ∷ [])
   then_long i e = rw h (item_goes long s c i (rw e at f))
 
-  pub no_long : {x : Outcome} {vs : List Value} → w ≡ a-long.Stop x → Then (plain long ∷ []) s p (passed.Stop x) vs
+  pub no_long : {x : Outcome} {vs : List Value} → w ≡ a_long.Stop x → Then (plain long ∷ []) s p (passed.Stop x) vs
   no_long e = rw h (item_halts long s c (rw e at f))
 
 -- a refusal is not where all was read
@@ -293,10 +293,10 @@ module _ (s : List ℕ) {p : Passed} (c : Cursor) (h : p ≡ passed.Got c) (i : 
       go base k = rw e (then_reads h i k.read)
 
 -- what is answered by where it lies
-pub range_got : {o : Part} {x : Span} {d : Cursor} → o ≡ a-part.Got x d → record { passed = passed.Got d; span = x } ≡ range_of o
+pub range_got : {o : Part} {x : Span} {d : Cursor} → o ≡ a_part.Got x d → record { passed = passed.Got d; span = x } ≡ range_of o
 range_got e = rw e
 
-pub range_stop : {o : Part} {x : Outcome} → o ≡ a-part.Stop x → no_range x ≡ range_of o
+pub range_stop : {o : Part} {x : Outcome} → o ≡ a_part.Stop x → no_range x ≡ range_of o
 range_stop e = rw e
 
 -- an opaque or a string, by its part
@@ -304,11 +304,11 @@ pub then_part : (s : List ℕ) {p : Passed} (c : Cursor) (i : Item) (o : Part) {
 then_part s c i o h j e q = rw (h, q) (go o e)
   where
     go : (o : Part) → part_out o ≡ read_item i s (place c) → Then (plain i ∷ []) s (passed.Got c) (range_of o).passed (part (span (range_of o).span) ∷ [])
-    go (a-part.Got x d) e = item_goes i s c j e
-    go (a-part.Stop x) e = item_halts i s c e
+    go (a_part.Got x d) e = item_goes i s c j e
+    go (a_part.Stop x) e = item_halts i s c e
 
 -- a string that is passed, by its opaque
-pub text_passed : (s : List ℕ) (c : Cursor) {o : Part} → part_out o ≡ read_item opaque s (place c) → {x : Span} {d : Cursor} → o ≡ a-part.Got x d → Inside s c
+pub text_passed : (s : List ℕ) (c : Cursor) {o : Part} → part_out o ≡ read_item opaque s (place c) → {x : Span} {d : Cursor} → o ≡ a_part.Got x d → Inside s c
     → {n end : ℕ} → end ≡ x.start + x.count → n ≡ well_formed_of (take (end - x.start) (drop x.start s)) → x.count ≤ n → Ends (plain string ∷ []) s (passed.Got c) (passed.Got d)
 text_passed s c e h i z u t = ends (item_goes string s c i (string_got s c e h z u t))
 

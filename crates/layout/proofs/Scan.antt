@@ -23,7 +23,7 @@ use Rattle.xdr.specs.declared.Cursor.{Cursor}
 use Rattle.xdr.specs.declared.Outcome.{Outcome}
 use Rattle.xdr.specs.declared.Span.{Span}
 use Rattle.xdr.specs.declared.Part.{Part}
-use Rattle.xdr.specs.declared.Part.TheVariants as a-part
+use Rattle.xdr.specs.declared.Part.TheVariants as a_part
 use Rattle.xdr.specs.declared.Word.{Word}
 use Rattle.xdr.specs.declared.Word.TheVariants as a_word
 use Rattle.xdr.specs.Shown.{place, Inside, refused, behind, refusal, span, word_out, part_out}
@@ -98,10 +98,10 @@ module _ (s : List ℕ) (c : Cursor) {w : Word} (e : word_out w ≡ read_item wo
   frame_cut h = framing_cut s (place c) (rw h at e)
 
   module _ {f : ℕ} {d : Cursor} (h : w ≡ a_word.Got f d) {r : Part} (i : part_out r ≡ read_item opaque s (place d)) where
-    pub frame_short : {x : Outcome} → r ≡ a-part.Stop x → refusal x ≡ frame_at s (place c)
+    pub frame_short : {x : Outcome} → r ≡ a_part.Stop x → refusal x ≡ frame_at s (place c)
     frame_short g = framing_short s (place c) (rw h at e) (rw g at i)
 
-    pub frame_got : {x : Span} {u : Cursor} → r ≡ a-part.Got x u → got (framing f (span x)) (place u) ≡ frame_at s (place c)
+    pub frame_got : {x : Span} {u : Cursor} → r ≡ a_part.Got x u → got (framing f (span x)) (place u) ≡ frame_at s (place c)
     frame_got g = framing_got s (place c) (rw h at e) (rw g at i)
 
 -- the same by one look at its two words

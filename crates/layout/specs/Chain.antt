@@ -11,12 +11,12 @@ use Rattle.xdr.specs.declared.Outcome.{Outcome}
 use Rattle.xdr.specs.declared.Passed.{Passed}
 use Rattle.xdr.specs.declared.Passed.TheVariants as passed
 use Rattle.xdr.specs.declared.Part.{Part}
-use Rattle.xdr.specs.declared.Part.TheVariants as a-part
+use Rattle.xdr.specs.declared.Part.TheVariants as a_part
 use Rattle.layout.specs.declared.lists.Ranged.{Ranged}
 use Rattle.layout.specs.declared.field.Mode.{Mode}
-use Rattle.layout.specs.declared.field.Mode.TheVariants as a-mode
+use Rattle.layout.specs.declared.field.Mode.TheVariants as a_mode
 use Rattle.layout.specs.declared.field.Counted.{Counted}
-use Rattle.layout.specs.declared.field.Counted.TheVariants as a-count
+use Rattle.layout.specs.declared.field.Counted.TheVariants as a_count
 use Rattle.xdr.specs.Shown.{place, Inside, refusal}
 
 -- an outcome that can be read on from
@@ -63,8 +63,8 @@ loaded n w = loaded_from n w 0
 -- ---- modes
 
 abbrev pub mode_of : Mode → reading.Mode
-mode_of a-mode.Memo = memo
-mode_of a-mode.Base = base
+mode_of a_mode.Memo = memo
+mode_of a_mode.Base = base
 
 -- the bytes of an Ethernet address
 abbrev pub ethernet_width : reading.Mode → Width
@@ -74,15 +74,15 @@ ethernet_width base = six
 -- ---- what is answered by where it lies
 
 abbrev pub field_of : Counted → Field
-field_of a-count.List = list
-field_of a-count.Segments = segments
+field_of a_count.List = list
+field_of a_count.Segments = segments
 
 abbrev pub no_range : Outcome → Ranged
 no_range x = record { passed = passed.Stop x; span = record { start = 0; count = 0 } }
 
 abbrev pub range_of : Part → Ranged
-range_of (a-part.Got x d) = record { passed = passed.Got d; span = x }
-range_of (a-part.Stop x) = no_range x
+range_of (a_part.Got x d) = record { passed = passed.Got d; span = x }
+range_of (a_part.Stop x) = no_range x
 
 -- n of something, from `start` on
 abbrev pub counted : (start n : ℕ) → Passed → Ranged

@@ -158,7 +158,7 @@ abbrev pub unread : List Field → ℕ → Reading
 unread l code = valued l (stop code 0 0)
 
 -- the fields asked for, of the descriptor that is handed in: by their layout from the start of its range, held to it
-unfoldable pub read : Mode → (asked-kind asked-format : ℕ) → (input : List ℕ) → (kind format start extent : ℕ) → Fields
+unfoldable pub read : Mode → (asked_kind asked_format : ℕ) → (input : List ℕ) → (kind format start extent : ℕ) → Fields
 read mode ak af s k f start extent = answered (limited s
     (cond (leb (start + extent) (length s))
     (cond (eqb k ak & eqb f af)

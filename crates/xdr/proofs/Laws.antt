@@ -26,7 +26,7 @@ use Rattle.xdr.specs.declared.Word.{Word}
 use Rattle.xdr.specs.declared.Word.TheVariants as a_word
 use Rattle.xdr.specs.declared.Span.{Span}
 use Rattle.xdr.specs.declared.Part.{Part}
-use Rattle.xdr.specs.declared.Part.TheVariants as a-part
+use Rattle.xdr.specs.declared.Part.TheVariants as a_part
 use Rattle.xdr.specs.declared.Passed.{Passed}
 use Rattle.xdr.specs.declared.Passed.TheVariants as passed
 use Rattle.xdr.proofs.Inside.{after_item}
@@ -116,10 +116,10 @@ module _ (s : List ℕ) (c : Cursor) {w : Word} (e : word_out w ≡ read_item wo
 
 -- ---- a string by its opaque
 module _ (s : List ℕ) (c : Cursor) {o : Part} (e : part_out o ≡ read_item opaque s (place c)) where
-  pub string_cut : {x : Outcome} → o ≡ a-part.Stop x → refusal x ≡ read_item string s (place c)
+  pub string_cut : {x : Outcome} → o ≡ a_part.Stop x → refusal x ≡ read_item string s (place c)
   string_cut h = opaques.string_cut s (place c) (rw h at e)
 
-  module _ {x : Span} {d : Cursor} (h : o ≡ a-part.Got x d) where
+  module _ {x : Span} {d : Cursor} (h : o ≡ a_part.Got x d) where
     pub string_fits : x.start + x.count ≤ length s
     string_fits = opaques.opaque_fits s (place c) (rw h at e)
 

@@ -20,7 +20,7 @@ use Rattle.xdr.specs.declared.Long.{Long}
 use Rattle.xdr.specs.declared.Long.TheVariants as long
 use Rattle.xdr.specs.declared.Outcome.{Outcome}
 use Rattle.xdr.specs.declared.Part.{Part}
-use Rattle.xdr.specs.declared.Part.TheVariants as is-part
+use Rattle.xdr.specs.declared.Part.TheVariants as is_part
 use Rattle.xdr.specs.declared.Passed.{Passed}
 use Rattle.xdr.specs.declared.Passed.TheVariants as passed
 use Rattle.xdr.specs.declared.Span.{Span}
@@ -114,14 +114,14 @@ int_lossless = got_back int_back same
     same (int.Stop x) = refl
 
 abbrev part_back : Out Value → Part
-part_back = made (λ v. is-part.Got (range_of v)) is-part.Stop
+part_back = made (λ v. is_part.Got (range_of v)) is_part.Stop
 
 pub part_lossless : Lossless part_out
 part_lossless = got_back part_back same
   where
     same : (r : Part) → part_back (part_out r) ≡ r
-    same (is-part.Got x c) = refl
-    same (is-part.Stop x) = refl
+    same (is_part.Got x c) = refl
+    same (is_part.Stop x) = refl
 
 -- ---- what was passed, with or without values beside it
 
