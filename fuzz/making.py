@@ -23,13 +23,13 @@ def script(*path):
 
 
 def library():
-    """The module that ./build compiles, compiled once more with the edges counted."""
+    """What ./build compiles, compiled once more with the edges counted."""
     build = script("build")
     made = os.path.join(MADE, "liblatchplume.a")
     try:
         kit = build.Kit()
         with build.one_at_a_time():
-            build.compile_modules(kit, build.proved(kit), build.MACHINE, made, [COUNTED])
+            build.compile_all(kit, build.MACHINE, made, [COUNTED])
     except build.Failed as trouble:
         raise building.Failed(str(trouble)) from None
     return made

@@ -1,0 +1,64 @@
+// Made by tools/exports from crates/host.
+// What was polled: the counters of an interface, of a VLAN and of the processor.
+ghost use Rattle.std.specs.Prelude.{◌≡◌};
+ghost use Rattle.reading.specs.Layout.{memo};
+ghost use Rattle.xdr.specs.Shown.{answer_of};
+ghost use Rattle.counters.specs.Shown.{generic_interface_counters, ethernet_interface_counters, token_ring_counters, vg100_interface_counters, vlan_counters, processor_counters};
+ghost use Rattle.fields.specs.Shown.{read_at};
+
+use counters::polled::{
+    EthernetInterfaceCounters, GenericInterfaceCounters, ProcessorCounters, TokenRingCounters,
+    Vg100InterfaceCounters, VlanCounters,
+};
+use fields::descriptor::Words;
+
+#[unsafe(no_mangle)]
+pub extern "C" fn latchplume_read_generic_interface_counters(
+    s: &[u8],
+    d: &Words,
+) -> GenericInterfaceCounters
+    ensures { answer_of result.outcome (generic_interface_counters result) ≡ read_at memo 3 1 s.now d.now }
+{
+    host::polled::latchplume_read_generic_interface_counters(s, d)
+}
+
+#[unsafe(no_mangle)]
+pub extern "C" fn latchplume_read_ethernet_interface_counters(
+    s: &[u8],
+    d: &Words,
+) -> EthernetInterfaceCounters
+    ensures { answer_of result.outcome (ethernet_interface_counters result) ≡ read_at memo 3 2 s.now d.now }
+{
+    host::polled::latchplume_read_ethernet_interface_counters(s, d)
+}
+
+#[unsafe(no_mangle)]
+pub extern "C" fn latchplume_read_token_ring_counters(s: &[u8], d: &Words) -> TokenRingCounters
+    ensures { answer_of result.outcome (token_ring_counters result) ≡ read_at memo 3 3 s.now d.now }
+{
+    host::polled::latchplume_read_token_ring_counters(s, d)
+}
+
+#[unsafe(no_mangle)]
+pub extern "C" fn latchplume_read_vg100_interface_counters(
+    s: &[u8],
+    d: &Words,
+) -> Vg100InterfaceCounters
+    ensures { answer_of result.outcome (vg100_interface_counters result) ≡ read_at memo 3 4 s.now d.now }
+{
+    host::polled::latchplume_read_vg100_interface_counters(s, d)
+}
+
+#[unsafe(no_mangle)]
+pub extern "C" fn latchplume_read_vlan_counters(s: &[u8], d: &Words) -> VlanCounters
+    ensures { answer_of result.outcome (vlan_counters result) ≡ read_at memo 3 5 s.now d.now }
+{
+    host::polled::latchplume_read_vlan_counters(s, d)
+}
+
+#[unsafe(no_mangle)]
+pub extern "C" fn latchplume_read_processor_counters(s: &[u8], d: &Words) -> ProcessorCounters
+    ensures { answer_of result.outcome (processor_counters result) ≡ read_at memo 3 1001 s.now d.now }
+{
+    host::polled::latchplume_read_processor_counters(s, d)
+}

@@ -1,0 +1,38 @@
+// Made by tools/exports from crates/host.
+// What was sampled: the packet's first bytes, or the fields of its header.
+ghost use Rattle.std.specs.Prelude.{◌≡◌};
+ghost use Rattle.reading.specs.Layout.{memo};
+ghost use Rattle.xdr.specs.Shown.{answer_of};
+ghost use Rattle.flow_layouts.specs.Shown.{sampled_header, sampled_ethernet, sampled_ipv4, sampled_ipv6};
+ghost use Rattle.fields.specs.Shown.{read_at};
+
+use fields::descriptor::Words;
+use flow_layouts::sampled::{SampledEthernet, SampledHeader, SampledIpv4, SampledIpv6};
+
+#[unsafe(no_mangle)]
+pub extern "C" fn latchplume_read_sampled_header(s: &[u8], d: &Words) -> SampledHeader
+    ensures { answer_of result.outcome (sampled_header result) ≡ read_at memo 2 1 s.now d.now }
+{
+    host::sampled::latchplume_read_sampled_header(s, d)
+}
+
+#[unsafe(no_mangle)]
+pub extern "C" fn latchplume_read_sampled_ethernet(s: &[u8], d: &Words) -> SampledEthernet
+    ensures { answer_of result.outcome (sampled_ethernet result) ≡ read_at memo 2 2 s.now d.now }
+{
+    host::sampled::latchplume_read_sampled_ethernet(s, d)
+}
+
+#[unsafe(no_mangle)]
+pub extern "C" fn latchplume_read_sampled_ipv4(s: &[u8], d: &Words) -> SampledIpv4
+    ensures { answer_of result.outcome (sampled_ipv4 result) ≡ read_at memo 2 3 s.now d.now }
+{
+    host::sampled::latchplume_read_sampled_ipv4(s, d)
+}
+
+#[unsafe(no_mangle)]
+pub extern "C" fn latchplume_read_sampled_ipv6(s: &[u8], d: &Words) -> SampledIpv6
+    ensures { answer_of result.outcome (sampled_ipv6 result) ≡ read_at memo 2 4 s.now d.now }
+{
+    host::sampled::latchplume_read_sampled_ipv6(s, d)
+}

@@ -1,0 +1,46 @@
+// Made by tools/exports from crates/host.
+// 802.11: what was sent or received by radio.
+ghost use Rattle.std.specs.Prelude.{◌≡◌};
+ghost use Rattle.reading.specs.Layout.{memo};
+ghost use Rattle.xdr.specs.Shown.{answer_of};
+ghost use Rattle.flow_layouts.specs.Shown.{extended_80211_payload, extended_80211_rx, extended_80211_tx, extended_80211_aggregation};
+ghost use Rattle.fields.specs.Shown.{read_at};
+
+use fields::descriptor::Words;
+use flow_layouts::wireless::{
+    Extended80211Aggregation, Extended80211Payload, Extended80211Rx, Extended80211Tx,
+};
+
+#[unsafe(no_mangle)]
+pub extern "C" fn latchplume_read_extended_80211_payload(
+    s: &[u8],
+    d: &Words,
+) -> Extended80211Payload
+    ensures { answer_of result.outcome (extended_80211_payload result) ≡ read_at memo 2 1013 s.now d.now }
+{
+    host::wireless::latchplume_read_extended_80211_payload(s, d)
+}
+
+#[unsafe(no_mangle)]
+pub extern "C" fn latchplume_read_extended_80211_rx(s: &[u8], d: &Words) -> Extended80211Rx
+    ensures { answer_of result.outcome (extended_80211_rx result) ≡ read_at memo 2 1014 s.now d.now }
+{
+    host::wireless::latchplume_read_extended_80211_rx(s, d)
+}
+
+#[unsafe(no_mangle)]
+pub extern "C" fn latchplume_read_extended_80211_tx(s: &[u8], d: &Words) -> Extended80211Tx
+    ensures { answer_of result.outcome (extended_80211_tx result) ≡ read_at memo 2 1015 s.now d.now }
+{
+    host::wireless::latchplume_read_extended_80211_tx(s, d)
+}
+
+#[unsafe(no_mangle)]
+pub extern "C" fn latchplume_read_extended_80211_aggregation(
+    s: &[u8],
+    d: &Words,
+) -> Extended80211Aggregation
+    ensures { answer_of result.outcome (extended_80211_aggregation result) ≡ read_at memo 2 1016 s.now d.now }
+{
+    host::wireless::latchplume_read_extended_80211_aggregation(s, d)
+}
