@@ -1,4 +1,4 @@
-// What the programs' lines are made of, and how they read their input: all of it through the runtime that `main` is given.
+// What the programs' lines are made of. What they print and read goes through the runtime that `main` is given.
 #![tactic(auto)]
 
 use std::io;
