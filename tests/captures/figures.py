@@ -43,7 +43,7 @@ def prepare():
     """Builds the library, the listing programs and the program that calls every function of the library."""
     os.makedirs(building.INTO, exist_ok=True)
     archive = building.archive()
-    building.run(["rt", "check", "listing", "listing_run"])
+    building.listings()
     building.program("calls", building.calls_sources(), archive, building.PLAIN)
 
 

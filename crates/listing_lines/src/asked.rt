@@ -1,6 +1,7 @@
 // What a listing program is asked on its command line: the memo's mode, or with `--base` the base mode.
 use layout::field::Mode;
-use os;
+use std::env::{Env, FillError};
+use std::io;
 
 #[derive(Clone, Copy)]
 pub enum Asked {
@@ -31,19 +32,27 @@ fn is_base(word: &[u8]) -> bool {
     word[5] == 101
 }
 
-// Anything else is told on a line of its own.
-pub fn arguments() -> Asked {
-    let count = os::arg_count();
-    if count < 2 {
-        return Asked::In(Mode::Memo);
+// Whether there is no argument of this number, counted from the program's own name.
+fn is_absent(rt: &impl Env, i: usize) -> bool {
+    match rt.arg(i, &mut []) {
+        Err(FillError::NotPresent) => true,
+        _ => false,
     }
+}
+
+// Anything else is told on a line of its own.
+pub fn arguments(rt: &(impl Env + Print)) -> io::Result<Asked> {
     let mut word = [0u8; 8];
-    let n = os::arg(1, &mut word);
-    if count == 2 {
+    let n = match rt.arg(1, &mut word) {
+        Err(FillError::NotPresent) => return Ok(Asked::In(Mode::Memo)),
+        Err(FillError::TooLong) => 0,
+        Ok(n) => n,
+    };
+    if is_absent(rt, 2) {
         if is_base(&word[..n]) {
-            return Asked::In(Mode::Base);
+            return Ok(Asked::In(Mode::Base));
         }
     }
-    printing::text(b"argument=unknown\n");
-    Asked::Unknown
+    printing::text(rt, b"argument=unknown\n")?;
+    Ok(Asked::Unknown)
 }

@@ -1,8 +1,10 @@
 // Standard input as a run of datagrams, up to 65,536 bytes: the answer, and the descriptors. With `--base` in the base mode.
+#![tactic(auto)]
+
 use datagram::run::decode_run;
 use layout::field::Mode;
-use libc::STDIN_FILENO;
 use listing_lines::asked::{Asked, arguments};
+use std::io;
 use store::DESCRIPTOR_WORDS;
 
 // The longest input, and the words of a store that has room for any of that length: a descriptor owns four bytes.
@@ -10,25 +12,24 @@ const MOST: usize = 65536;
 
 const STORE_WORDS: usize = MOST / 4 * DESCRIPTOR_WORDS;
 
-fn list(s: &[u8], store: &mut [u32], mode: Mode) {
+fn list(rt: &impl Print, s: &[u8], store: &mut [u32], mode: Mode) -> io::Result<()> {
     let answer = decode_run(s, &mut *store, mode);
-    listing_lines::list(answer, &*store);
+    listing_lines::list(rt, answer, &*store)
 }
 
-fn list_input(mode: Mode) {
+fn list_input(rt: &(impl Input + Print), mode: Mode) -> io::Result<()> {
     let mut buffer = [0u8; MOST + 1];
-    let n = io::read_full(STDIN_FILENO, &mut buffer);
+    let n = printing::input::read_full(rt, &mut buffer)?;
     if MOST < n {
-        printing::text(b"input=toolong\n");
-        return;
+        return printing::text(rt, b"input=toolong\n");
     }
     let mut store = [0u32; STORE_WORDS];
-    list(&buffer[..n], &mut store, mode);
+    list(rt, &buffer[..n], &mut store, mode)
 }
 
-fn main() {
-    match arguments() {
-        Asked::In(mode) => list_input(mode),
-        Asked::Unknown => {}
+fn main(rt: HostRuntime) -> io::Result<()> {
+    match arguments(&rt)? {
+        Asked::In(mode) => list_input(&rt, mode),
+        Asked::Unknown => Ok(()),
     }
 }

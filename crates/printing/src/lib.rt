@@ -1,12 +1,21 @@
-// What the programs' lines are made of.
-use libc::STDOUT_FILENO;
+// What the programs' lines are made of. What they print and read goes through the runtime that `main` is given.
+#![tactic(auto)]
 
-pub fn text(s: &[u8]) {
-    io::write_all(STDOUT_FILENO, s);
+use std::io;
+
+pub mod input;
+
+pub fn text(rt: &impl Print, s: &[u8]) -> io::Result<()> {
+    rt.write_all(s)
 }
 
 // A number behind its name.
-pub fn number(name: &[u8], n: u64) {
-    text(name);
-    io::print_decimal(STDOUT_FILENO, n);
+pub fn number(rt: &impl Print, name: &[u8], n: u64) -> io::Result<()> {
+    text(rt, name)?;
+    rt.print(n)
+}
+
+// A byte as two hexadecimal digits.
+pub fn hex(rt: &impl Print, b: u8) -> io::Result<()> {
+    print!(rt; "{b:02x}")
 }

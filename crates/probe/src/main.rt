@@ -3,17 +3,22 @@
 //
 // A vector is four bytes and what they announce: the item's letter, a count (of words, for a run of them), where the cursor
 // starts, and how many bytes follow; then those bytes.
-ghost use Rattle.std.specs.Prelude.{◌+◌, ◌≤◌, ◌<◌, length};
+#![tactic(auto)]
 
-use libc::STDIN_FILENO;
+ghost use Rattle.std.specs.Prelude.{◌+◌, ◌≤◌, ◌<◌, length, IfOk};
+
+use std::io;
 
 mod items;
 mod print;
 
-// One vector, which begins at `at`: where the next one begins.
-fn vector(s: &[u8], at: usize) -> usize
+// The bytes of input that are read; any behind them are not.
+const LARGEST: usize = 65536;
+
+// One vector, which begins at `at`: where the next one begins, or the write that failed.
+fn vector(rt: &impl Print, s: &[u8], at: usize) -> io::Result<usize>
     requires { at + 4 ≤ length s.now }
-    ensures { (at < result) × (result ≤ length s.now) }
+    ensures { IfOk result (λ next. (at < next) × (next ≤ length s.now)) }
 {
     let letter = s[at];
     let count = s[at + 1];
@@ -21,26 +26,27 @@ fn vector(s: &[u8], at: usize) -> usize
     let size = print::octet(s[at + 3]);
     let from = at + 4;
     if s.len() - from < size {
-        printing::text(b"input=cut\n");
-        return s.len();
+        printing::text(rt, b"input=cut\n")?;
+        return Ok(s.len());
     }
     let end = from + size;
-    items::item(letter, count, start, &s[from..end]);
-    end
+    items::item(rt, letter, count, start, &s[from..end])?;
+    Ok(end)
 }
 
-fn vectors(s: &[u8]) {
+fn vectors(rt: &impl Print, s: &[u8]) -> io::Result<()> {
     let mut at = 0;
     while 4 <= s.len() - at {
-        at = vector(s, at);
+        at = vector(rt, s, at)?;
     }
     if at < s.len() {
-        printing::text(b"input=cut\n");
+        printing::text(rt, b"input=cut\n")?;
     }
+    Ok(())
 }
 
-fn main() {
-    let mut buffer = io::large_buffer();
-    let n = io::read_full(STDIN_FILENO, &mut buffer);
-    vectors(&buffer[..n]);
+fn main(rt: HostRuntime) -> io::Result<()> {
+    let mut buffer = [0u8; LARGEST];
+    let n = printing::input::read_full(&rt, &mut buffer)?;
+    vectors(&rt, &buffer[..n])
 }

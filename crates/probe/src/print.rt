@@ -1,7 +1,7 @@
 // What the lines are made of.
 ghost use Rattle.std.specs.Prelude.{◌<◌, ◌≡◌, nat_abs};
 
-use libc::STDOUT_FILENO;
+use std::io;
 use xdr::{Cursor, Outcome};
 
 pub fn octet(b: u8) -> usize
@@ -21,37 +21,38 @@ fn distance(z: i32) -> u64
 }
 
 // A number with its sign.
-pub fn integer(name: &[u8], z: i32) {
-    printing::text(name);
+pub fn integer(rt: &impl Print, name: &[u8], z: i32) -> io::Result<()> {
+    printing::text(rt, name)?;
     if z < 0 {
-        printing::text(b"-");
+        printing::text(rt, b"-")?;
     }
-    io::print_decimal(STDOUT_FILENO, distance(z));
+    rt.print(distance(z))
 }
 
 // Bytes in hexadecimal, and a dash where there are none.
-pub fn octets(s: &[u8]) {
+pub fn octets(rt: &impl Print, s: &[u8]) -> io::Result<()> {
     if s.len() == 0 {
-        printing::text(b"-");
+        printing::text(rt, b"-")?;
     }
     let mut i = 0;
     while i < s.len() {
-        io::print_hex(STDOUT_FILENO, octet(s[i]) as u64, 2);
+        printing::hex(rt, s[i])?;
         i += 1;
     }
+    Ok(())
 }
 
 // The end of a line: where the cursor stands behind what was read.
-pub fn stands(c: Cursor) {
-    printing::number(b" at=", c.at as u64);
-    printing::number(b" steps=", c.steps as u64);
-    printing::text(b"\n");
+pub fn stands(rt: &impl Print, c: Cursor) -> io::Result<()> {
+    printing::number(rt, b" at=", c.at as u64)?;
+    printing::number(rt, b" steps=", c.steps as u64)?;
+    printing::text(rt, b"\n")
 }
 
 // The end of a line: why nothing was read.
-pub fn refusal(r: Outcome) {
-    printing::number(b" code=", r.code as u64);
-    printing::number(b" at=", r.at as u64);
-    printing::number(b" steps=", r.steps as u64);
-    printing::text(b"\n");
+pub fn refusal(rt: &impl Print, r: Outcome) -> io::Result<()> {
+    printing::number(rt, b" code=", r.code as u64)?;
+    printing::number(rt, b" at=", r.at as u64)?;
+    printing::number(rt, b" steps=", r.steps as u64)?;
+    printing::text(rt, b"\n")
 }
