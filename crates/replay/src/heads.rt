@@ -2,89 +2,90 @@
 use crate::values;
 use fields::descriptor::Words;
 use host::heads;
+use std::io;
 
-pub fn header(s: &[u8], d: &Words) {
+pub fn header(rt: &impl Print, s: &[u8], d: &Words) -> io::Result<()> {
     let r = heads::latchplume_read_header(s, d);
     let o = r.outcome;
-    values::outcome(o);
-    values::word(r.version);
+    values::outcome(rt, o)?;
+    values::word(rt, r.version)?;
     let agent_address = r.agent_address;
-    values::address(agent_address);
-    values::word(r.sub_agent_id);
-    values::word(r.sequence_number);
-    values::word(r.uptime);
-    values::word(r.num_samples);
+    values::address(rt, agent_address)?;
+    values::word(rt, r.sub_agent_id)?;
+    values::word(rt, r.sequence_number)?;
+    values::word(rt, r.uptime)?;
+    values::word(rt, r.num_samples)
 }
 
-pub fn flow_sample(s: &[u8], d: &Words) {
+pub fn flow_sample(rt: &impl Print, s: &[u8], d: &Words) -> io::Result<()> {
     let r = heads::latchplume_read_flow_sample(s, d);
     let o = r.outcome;
-    values::outcome(o);
-    values::word(r.sequence_number);
+    values::outcome(rt, o)?;
+    values::word(rt, r.sequence_number)?;
     let source_id = r.source_id;
-    values::word(source_id.0);
-    values::word(r.sampling_rate);
-    values::word(r.sample_pool);
-    values::word(r.drops);
+    values::word(rt, source_id.0)?;
+    values::word(rt, r.sampling_rate)?;
+    values::word(rt, r.sample_pool)?;
+    values::word(rt, r.drops)?;
     let input = r.input;
-    values::word(input.0);
+    values::word(rt, input.0)?;
     let output = r.output;
-    values::word(output.0);
-    values::word(r.num_records);
+    values::word(rt, output.0)?;
+    values::word(rt, r.num_records)
 }
 
-pub fn counters_sample(s: &[u8], d: &Words) {
+pub fn counters_sample(rt: &impl Print, s: &[u8], d: &Words) -> io::Result<()> {
     let r = heads::latchplume_read_counters_sample(s, d);
     let o = r.outcome;
-    values::outcome(o);
-    values::word(r.sequence_number);
+    values::outcome(rt, o)?;
+    values::word(rt, r.sequence_number)?;
     let source_id = r.source_id;
-    values::word(source_id.0);
-    values::word(r.num_records);
+    values::word(rt, source_id.0)?;
+    values::word(rt, r.num_records)
 }
 
-pub fn flow_sample_expanded(s: &[u8], d: &Words) {
+pub fn flow_sample_expanded(rt: &impl Print, s: &[u8], d: &Words) -> io::Result<()> {
     let r = heads::latchplume_read_flow_sample_expanded(s, d);
     let o = r.outcome;
-    values::outcome(o);
-    values::word(r.sequence_number);
+    values::outcome(rt, o)?;
+    values::word(rt, r.sequence_number)?;
     let source_id = r.source_id;
-    values::word(source_id.source_id_type);
-    values::word(source_id.source_id_index);
-    values::word(r.sampling_rate);
-    values::word(r.sample_pool);
-    values::word(r.drops);
+    values::word(rt, source_id.source_id_type)?;
+    values::word(rt, source_id.source_id_index)?;
+    values::word(rt, r.sampling_rate)?;
+    values::word(rt, r.sample_pool)?;
+    values::word(rt, r.drops)?;
     let input = r.input;
-    values::word(input.format);
-    values::word(input.value);
+    values::word(rt, input.format)?;
+    values::word(rt, input.value)?;
     let output = r.output;
-    values::word(output.format);
-    values::word(output.value);
-    values::word(r.num_records);
+    values::word(rt, output.format)?;
+    values::word(rt, output.value)?;
+    values::word(rt, r.num_records)
 }
 
-pub fn counters_sample_expanded(s: &[u8], d: &Words) {
+pub fn counters_sample_expanded(rt: &impl Print, s: &[u8], d: &Words) -> io::Result<()> {
     let r = heads::latchplume_read_counters_sample_expanded(s, d);
     let o = r.outcome;
-    values::outcome(o);
-    values::word(r.sequence_number);
+    values::outcome(rt, o)?;
+    values::word(rt, r.sequence_number)?;
     let source_id = r.source_id;
-    values::word(source_id.source_id_type);
-    values::word(source_id.source_id_index);
-    values::word(r.num_records);
+    values::word(rt, source_id.source_id_type)?;
+    values::word(rt, source_id.source_id_index)?;
+    values::word(rt, r.num_records)
 }
 
-pub fn discarded_packet(s: &[u8], d: &Words) {
+pub fn discarded_packet(rt: &impl Print, s: &[u8], d: &Words) -> io::Result<()> {
     let r = heads::latchplume_read_discarded_packet(s, d);
     let o = r.outcome;
-    values::outcome(o);
-    values::word(r.sequence_number);
+    values::outcome(rt, o)?;
+    values::word(rt, r.sequence_number)?;
     let source_id = r.source_id;
-    values::word(source_id.source_id_type);
-    values::word(source_id.source_id_index);
-    values::word(r.drops);
-    values::word(r.input_ifindex);
-    values::word(r.output_ifindex);
-    values::word(r.reason);
-    values::word(r.num_records);
+    values::word(rt, source_id.source_id_type)?;
+    values::word(rt, source_id.source_id_index)?;
+    values::word(rt, r.drops)?;
+    values::word(rt, r.input_ifindex)?;
+    values::word(rt, r.output_ifindex)?;
+    values::word(rt, r.reason)?;
+    values::word(rt, r.num_records)
 }

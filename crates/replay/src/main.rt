@@ -3,12 +3,14 @@
 //
 // A case is five bytes and what they announce: 'o' for one datagram, 'f' for one with the fields of its descriptors, or 'r' for a run of
 // them, how many words of store are lent, and how many bytes follow, two bytes each; then those bytes.
+#![tactic(auto)]
+
 ghost use Rattle.std.specs.Prelude.{◌≤◌, ◌<◌, ◌≡◌, length};
 
 use datagram::decode::decode;
 use datagram::run::decode_run;
 use layout::field::Mode;
-use libc::STDIN_FILENO;
+use std::io;
 
 mod each;
 mod heads;
@@ -17,33 +19,36 @@ mod print;
 mod records;
 mod values;
 
-fn one(s: &[u8], store: &mut [u32]) {
+// The room for a case's own bytes, whose count is below it.
+const LARGEST: usize = 65536;
+
+fn one(rt: &impl Print, s: &[u8], store: &mut [u32]) -> io::Result<()> {
     let decoded = decode(s, &mut *store, Mode::Base);
     let answer = decoded.answer;
     let address = decoded.agent_address;
-    printing::text(b"one");
-    print::answer(answer);
-    print::address(address);
-    print::word(b",", decoded.sub_agent_id);
-    print::word(b",", decoded.sequence_number);
-    print::word(b",", decoded.uptime);
-    print::word(b",", decoded.num_samples);
-    print::left(answer, &*store);
+    printing::text(rt, b"one")?;
+    print::answer(rt, answer)?;
+    print::address(rt, address)?;
+    print::word(rt, b",", decoded.sub_agent_id)?;
+    print::word(rt, b",", decoded.sequence_number)?;
+    print::word(rt, b",", decoded.uptime)?;
+    print::word(rt, b",", decoded.num_samples)?;
+    print::left(rt, answer, &*store)
 }
 
-fn with_fields(s: &[u8], store: &mut [u32]) {
+fn with_fields(rt: &impl Print, s: &[u8], store: &mut [u32]) -> io::Result<()> {
     let decoded = decode(s, &mut *store, Mode::Base);
     let answer = decoded.answer;
-    printing::text(b"fields");
-    print::answer(answer);
-    each::left(s, answer, &*store);
+    printing::text(rt, b"fields")?;
+    print::answer(rt, answer)?;
+    each::left(rt, s, answer, &*store)
 }
 
-fn run(s: &[u8], store: &mut [u32]) {
+fn run(rt: &impl Print, s: &[u8], store: &mut [u32]) -> io::Result<()> {
     let answer = decode_run(s, &mut *store, Mode::Base);
-    printing::text(b"run");
-    print::answer(answer);
-    print::left(answer, &*store);
+    printing::text(rt, b"run")?;
+    print::answer(rt, answer)?;
+    print::left(rt, answer, &*store)
 }
 
 // A store whose words all hold what a descriptor is not likely to.
@@ -54,29 +59,29 @@ fn lent() -> [u32; 4096]
 }
 
 // The call of this letter, with so many words of store.
-fn call(letter: u8, s: &[u8], words: usize)
+fn call(rt: &impl Print, letter: u8, s: &[u8], words: usize) -> io::Result<()>
     requires { words ≤ 4096 }
 {
     let mut store = lent();
     if letter == b'o' {
-        one(s, &mut store[..words]);
+        one(rt, s, &mut store[..words])
     } else if letter == b'f' {
-        with_fields(s, &mut store[..words]);
+        with_fields(rt, s, &mut store[..words])
     } else {
-        run(s, &mut store[..words]);
+        run(rt, s, &mut store[..words])
     }
 }
 
 // The case's own bytes, read into the buffer and decoded; false where they are not all there.
-fn input(letter: u8, words: usize, buffer: &mut [u8]) -> bool
+fn input(rt: &(impl Input + Print), letter: u8, words: usize, buffer: &mut [u8]) -> io::Result<bool>
     requires { words ≤ 4096 }
 {
-    let n = io::read_full(STDIN_FILENO, &mut *buffer);
+    let n = printing::input::read_full(rt, &mut *buffer)?;
     if n < buffer.len() {
-        return false;
+        return Ok(false);
     }
-    call(letter, &*buffer, words);
-    true
+    call(rt, letter, &*buffer, words)?;
+    Ok(true)
 }
 
 fn two(high: u8, low: u8) -> usize
@@ -86,28 +91,29 @@ fn two(high: u8, low: u8) -> usize
 }
 
 // The next case; false where there is none.
-fn case() -> bool {
+fn case(rt: &(impl Input + Print)) -> io::Result<bool> {
     let mut head = [0u8; 5];
-    let n = io::read_full(STDIN_FILENO, &mut head);
+    let n = printing::input::read_full(rt, &mut head)?;
     if n == 0 {
-        return false;
+        return Ok(false);
     }
     let words = two(head[1], head[2]);
     let size = two(head[3], head[4]);
-    let mut buffer = io::large_buffer();
-    if n < 5 || 4096 < words || !input(head[0], words, &mut buffer[..size]) {
-        printing::text(b"input=bad\n");
-        return false;
+    let mut buffer = [0u8; LARGEST];
+    if n < 5 || 4096 < words || !input(rt, head[0], words, &mut buffer[..size])? {
+        printing::text(rt, b"input=bad\n")?;
+        return Ok(false);
     }
-    true
+    Ok(true)
 }
 
-fn main() {
+fn main(rt: HostRuntime) -> io::Result<()> {
     let mut left: usize = 1000000;
     while 0 < left {
-        if !case() {
-            return;
+        if !case(&rt)? {
+            return Ok(());
         }
         left -= 1;
     }
+    Ok(())
 }

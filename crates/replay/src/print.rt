@@ -3,7 +3,7 @@ ghost use Rattle.std.specs.Prelude.{◌+◌, ◌*◌, ◌≤◌, ◌<◌, ◌≡
 ghost use Rattle.reading.specs.Sizes.{descriptor_words};
 
 use datagram::decode::Answer;
-use libc::STDOUT_FILENO;
+use std::io;
 use store::DESCRIPTOR_WORDS;
 use xdr::Address;
 
@@ -16,23 +16,24 @@ pub fn octet(b: u8) -> usize
     b as usize
 }
 
-pub fn answer(a: Answer) {
-    printing::number(b" code=", a.code as u64);
-    printing::number(b" at=", a.at as u64);
-    printing::number(b" steps=", a.steps as u64);
-    printing::number(b" needed=", a.needed as u64);
+pub fn answer(rt: &impl Print, a: Answer) -> io::Result<()> {
+    printing::number(rt, b" code=", a.code as u64)?;
+    printing::number(rt, b" at=", a.at as u64)?;
+    printing::number(rt, b" steps=", a.steps as u64)?;
+    printing::number(rt, b" needed=", a.needed as u64)
 }
 
 // A type, and sixteen bytes in hexadecimal.
-pub fn address(a: Address) {
+pub fn address(rt: &impl Print, a: Address) -> io::Result<()> {
     let bytes = a.bytes;
-    word(b" header=", a.kind);
-    printing::text(b",");
+    word(rt, b" header=", a.kind)?;
+    printing::text(rt, b",")?;
     let mut i = 0;
     while i < 16 {
-        io::print_hex(STDOUT_FILENO, octet(bytes[i]) as u64, 2);
+        printing::hex(rt, bytes[i])?;
         i += 1;
     }
+    Ok(())
 }
 
 // How many words from `from` on are as they were lent.
@@ -50,51 +51,53 @@ fn kept(store: &[u32], from: usize) -> usize
     n
 }
 
-pub fn word(name: &[u8], w: u32) {
-    printing::number(name, w as u64);
+pub fn word(rt: &impl Print, name: &[u8], w: u32) -> io::Result<()> {
+    printing::number(rt, name, w as u64)
 }
 
 // The descriptor whose first word is at `at`.
-fn descriptor(store: &[u32], at: usize)
+fn descriptor(rt: &impl Print, store: &[u32], at: usize) -> io::Result<()>
     requires { at + descriptor_words ≤ length store.now }
 {
-    word(b"; ", store[at]);
+    word(rt, b"; ", store[at])?;
     let mut i = 1;
     while i < DESCRIPTOR_WORDS {
-        word(b",", store[at + i]);
+        word(rt, b",", store[at + i])?;
         i += 1;
     }
+    Ok(())
 }
 
 // The first n descriptors.
-fn descriptors(store: &[u32], n: usize)
+fn descriptors(rt: &impl Print, store: &[u32], n: usize) -> io::Result<()>
     requires { descriptor_words * n ≤ length store.now }
 {
     let mut i = 0;
     while i < n {
-        descriptor(store, DESCRIPTOR_WORDS * i);
+        descriptor(rt, store, DESCRIPTOR_WORDS * i)?;
         i = i + 1;
     }
+    Ok(())
 }
 
 // The end of a line: how many of the store's words are as they were behind the first n descriptors, and those.
-fn behind(store: &[u32], n: usize)
+fn behind(rt: &impl Print, store: &[u32], n: usize) -> io::Result<()>
     requires { descriptor_words * n ≤ length store.now }
 {
-    printing::number(b" kept=", kept(store, DESCRIPTOR_WORDS * n) as u64);
-    descriptors(store, n);
-    printing::text(b"\n");
+    printing::number(rt, b" kept=", kept(store, DESCRIPTOR_WORDS * n) as u64)?;
+    descriptors(rt, store, n)?;
+    printing::text(rt, b"\n")
 }
 
 // The store that a call leaves: it has descriptors where the code is 0.
-pub fn left(a: Answer, store: &[u32])
+pub fn left(rt: &impl Print, a: Answer, store: &[u32]) -> io::Result<()>
     requires { a.code ≡ 0 → descriptor_words * a.needed ≤ length store.now }
 {
     let code = a.code;
     let n = a.needed;
     if code == 0 {
-        behind(store, n);
+        behind(rt, store, n)
     } else {
-        behind(store, 0);
+        behind(rt, store, 0)
     }
 }

@@ -1,47 +1,47 @@
 // How the fields of a descriptor are printed: the outcome, and each value behind a space.
-use crate::print;
-use libc::STDOUT_FILENO;
+use std::io;
 use xdr::{Address, Outcome, Span};
 
 // A new descriptor: the code, the position and the steps of its field reading.
-pub fn outcome(o: Outcome) {
-    printing::number(b"; ", o.code as u64);
-    printing::number(b",", o.at as u64);
-    printing::number(b",", o.steps as u64);
+pub fn outcome(rt: &impl Print, o: Outcome) -> io::Result<()> {
+    printing::number(rt, b"; ", o.code as u64)?;
+    printing::number(rt, b",", o.at as u64)?;
+    printing::number(rt, b",", o.steps as u64)
 }
 
-pub fn word(w: u32) {
-    printing::number(b" ", w as u64);
+pub fn word(rt: &impl Print, w: u32) -> io::Result<()> {
+    printing::number(rt, b" ", w as u64)
 }
 
-pub fn long(w: u64) {
-    printing::number(b" ", w);
+pub fn long(rt: &impl Print, w: u64) -> io::Result<()> {
+    printing::number(rt, b" ", w)
 }
 
 // A start and a count.
-pub fn span(x: Span) {
-    printing::number(b" ", x.start as u64);
-    printing::number(b"+", x.count as u64);
+pub fn span(rt: &impl Print, x: Span) -> io::Result<()> {
+    printing::number(rt, b" ", x.start as u64)?;
+    printing::number(rt, b"+", x.count as u64)
 }
 
 // Bytes in hexadecimal.
-fn hex(s: &[u8]) {
+fn hex(rt: &impl Print, s: &[u8]) -> io::Result<()> {
     let mut i = 0;
     while i < s.len() {
-        io::print_hex(STDOUT_FILENO, print::octet(s[i]) as u64, 2);
+        printing::hex(rt, s[i])?;
         i += 1;
     }
+    Ok(())
 }
 
-pub fn octets(s: &[u8]) {
-    printing::text(b" ");
-    hex(s);
+pub fn octets(rt: &impl Print, s: &[u8]) -> io::Result<()> {
+    printing::text(rt, b" ")?;
+    hex(rt, s)
 }
 
 // A type, and sixteen bytes in hexadecimal.
-pub fn address(a: Address) {
+pub fn address(rt: &impl Print, a: Address) -> io::Result<()> {
     let bytes = a.bytes;
-    word(a.kind);
-    printing::text(b"/");
-    hex(&bytes);
+    word(rt, a.kind)?;
+    printing::text(rt, b"/")?;
+    hex(rt, &bytes)
 }

@@ -1,0 +1,7 @@
+-- Where the code is 0 the store has room for the descriptors that are printed.
+use Rattle.std.proofs.Common.{rules}
+use Rattle.datagram.proofs.Deciding.{decoded_room}
+use Rattle.replay.proofs.with_fields.Goals as goal
+
+pub left-requires : goal.left-requires
+left-requires g c = search (decoded_room, rules)
