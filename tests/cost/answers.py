@@ -1,4 +1,4 @@
-"""What calls answer and leave in the store, and how deep they write the stack, on this processor and in the x86-64 code."""
+"""What calls answer and leave in the store, and how deep they write the stack, as they run and in the code."""
 import struct
 
 import build
@@ -7,7 +7,7 @@ import frames
 
 MOST_STACK = 16384
 HEAD = struct.Struct("<5QI16s4I4x")  # as answers.c writes it
-MODES = {"": "host", "_base": "host_base"}  # how the calls of a mode end, and the crate that exports them
+MODES = {"": "host_c", "_base": "host_base_c"}  # how the calls of a mode end, and the crate that exports them
 
 
 def ask(command, asked):
@@ -36,8 +36,6 @@ def difference(case, shown):
 
 def commands():
     yield build.MACHINE, build.program("answers")
-    if build.MACHINE != "x86_64":
-        yield "x86_64", build.x86_program("answers")
 
 
 def figures():

@@ -1,4 +1,4 @@
-"""The programs of this folder, built over the library of crates/host, for the machine at hand and for x86-64."""
+"""The programs of this folder, built over the library, for the machine at hand: the toolchain runs on x86-64 alone."""
 import functools
 import os
 import platform
@@ -60,18 +60,3 @@ def program(name, *options):
     path = made("cost", name)
     run(["cc", *FLAGS, os.path.join(COST, name + ".c"), library(), "-o", path, *options])
     return [path]
-
-
-def x86_program(name):
-    """The same for x86-64, where the machine at hand is another: by the toolchain's own compiler, C library and emulator."""
-    kit = os.environ.get("RATTLE_HOME") or os.path.dirname(os.path.dirname(os.path.realpath(shutil.which("rt"))))
-    own = os.path.join(kit, "on", MACHINE)
-    tools = os.path.join(own, "toolchain")
-    code, linked = made("cost", name + ".x86.o"), "cost_" + name
-    headers = run(["cc", "-print-file-name=include"]).decode().strip()
-    target = "x86_64-unknown-linux-gnu"
-    compiler = [os.path.join(tools, "bin", "clang"), "--target=" + target, "-ffreestanding", "-fPIC", "-isystem", headers]
-    run([*compiler, *FLAGS, "-c", os.path.join(COST, name + ".c"), "-o", code])
-    linker = [os.path.join(own, "bin", "rattle-link"), "--target", target, "--toolchain", tools]
-    run([*linker, "-o", made("bin", linked), code, library("x86_64")])
-    return [os.path.join(ROOT, "tests", "program"), linked]
