@@ -199,20 +199,12 @@ def arm(layout):
 
 
 def arms_proofs(layouts):
-    """What each arm asks, and what it answers; the last one is that of a number of no row. Of fixed layouts: of what has their sizes, and their widths."""
+    """What each arm asks, and what it answers; the last one is that of a number of no row. Of fixed layouts: of what has their sizes."""
     if not layouts[0].fixed:
         asked = [('search passing', step.passed.partition('(')[0] + '-requires') for one in layouts for step in map(Step, one.runs())]
         return [('data/pass/Proof', goals(asked + [('search (arm %d, passing)' % one.format, 'returns') for one in layouts] + [('search raw', 'returns')]))]
     sizes = [('search (bytes_of %d, items_of %d)' % (one.format, one.format), 'returns') for one in layouts] + [('search none', 'returns')]
-    return [('data/fixed/Proof', goals(sizes)), ('widths/cut/Answers', cut_answers(layouts))]
-
-
-def cut_answers(layouts):
-    """What is shown of each arm that goes through a fixed layout: that it is cut, a goal whose name lacks the first arm's number, and what it answers."""
-    bound, arms = 'first_cut-requires%s-clause-s_len_bound', ['-in-%d' % one.format for one in layouts]
-    shown = [(bound % (arm if i else ''), 'short_of %d' % one.format) for i, (one, arm) in enumerate(zip(layouts, arms))]
-    shown += [('returns' + arm, 'cut_of %d' % one.format) for one, arm in zip(layouts, arms)]
-    return ''.join('pub %s : goal.%s\nunfolding sizes_of counters\n%s c = search (%s, rules)\n\n' % (name, name, name, law) for name, law in shown)
+    return [('data/fixed/Proof', goals(sizes))]
 
 
 def cut_arm(layout):

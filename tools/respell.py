@@ -4,7 +4,7 @@
 usage: tools/respell.py     at the top, once, after the toolchain's port.py
 
 A name is the repository's own where a file of specs/ or a lemma file of proofs/ declares it. It turns in every .rt and .antt file and every
-must-fail edit, and stays in a file that imports a library's name of that spelling, in a comment and in a string. Two names that would fall
+must-fail edit, and stays in a file that imports a library's name of that spelling or gives it to a call, in a comment and in a string. Two names that would fall
 together in one file are said, and nothing is written.
 """
 import collections
@@ -26,7 +26,7 @@ OTHER_NAMES = """base-mode a-count a-long a-mode a-part is-part in-it script-beh
 asked-kind asked-format""".split()
 
 # A definition that has the name of a function, of whose answer it speaks.
-SAME_AS_A_FUNCTION = {"whole-span", "payload-span", "list-word", "well-formed", "ill-formed", "flow-records"}
+SAME_AS_A_FUNCTION = {"whole-span", "payload-span", "list-word", "well-formed", "ill-formed"}
 
 
 def spelled(name):
@@ -70,7 +70,8 @@ def main():
         text = p.read_text()
         theirs = {w.split(" as ")[0].strip() for m in outside.finditer(text) for w in m[1].split(",")}
         theirs |= {w.split(" as ")[-1].strip() for m in outside.finditer(text) for w in m[1].split(",")}
-        here = own - theirs
+        calls = set(re.findall(r" as ([\w'-]+)$", text, re.M)) if p.name == "Proof.antt" else set()  # what a proof calls the functions that are called
+        here = own - theirs - (calls - set(OTHER_NAMES))
         plain = set(re.findall(r"(?<![\w'.])[\w']+(?![\w'.])", QUIET.sub(" ", text)))  # a path's parts aside
         turned = collections.defaultdict(set)
 

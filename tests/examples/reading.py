@@ -173,7 +173,7 @@ stops ws m c a n k = record {
 
 HELPERS = 'in_mode w nowhere v4 v6 lies desc accepts begins refuses mistakes segment pays stands lists decodes runs stops'.split()
 TABLES = (
-    ('flow_records_of', 'the flow records', cases.flow_records),
+    ('flow_records', 'the flow records', cases.flow_records),
     ('counter_records', 'the counter records', cases.counter_records),
     ('sample_fields', 'the fields of a sample before its records', cases.samples),
     ('headers', 'the header of a datagram, by field reading', cases.headers),

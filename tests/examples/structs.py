@@ -111,7 +111,7 @@ def layout_text():
 
 def flow_layouts_text():
     bodies = flow_bodies()
-    return crate_text('flow_layouts', 'the flow records', [of_body('flow', b) for b in bodies], ['flow_records_of'],
+    return crate_text('flow_layouts', 'the flow records', [of_body('flow', b) for b in bodies], ['flow_records'],
                       shown_uses('flow_layouts', [b.name for b in bodies]))
 
 

@@ -1,20 +1,15 @@
 -- A counter record by its format: the widths of a number are the table's row of that number, and a number of no row has none. Assumes nothing.
-use Prim.Native.Nat.{ℕ, ◌+◌, ◌<◌}
-use mathlib.Core.Path.{◌≡◌, refl, sym, ap}
+use Prim.Native.Nat.{ℕ}
+use mathlib.Core.Path.{◌≡◌, refl, sym}
 use mathlib.Core.Bool.{Bool, true, false, cond}
 use mathlib.Core.List.{List, [], ◌∷◌}
-use native.Mathlib.Omega.{arith}
 use borrow.Author.Rules.{rules}
 use borrow.Author.Tests.{ne_eqb}
 use lib.Dec.{eqb}
 use lib.ListN.{length}
 use Rattle.reading.specs.Script.{give, nothing}
 use Rattle.reading.specs.Layout.{Fixed, fields, widths, total, opened, fixed_rows, counters}
-use Rattle.reading.proofs.Fields.{fields_out}
-use Rattle.xdr.specs.declared.Cursor.{Cursor}
-use Rattle.xdr.specs.declared.Outcome.{Outcome}
-use Rattle.xdr.specs.Shown.{Inside, place, refusal}
-use Rattle.counters.specs.Sizes.{sizes, sizes_at, sizes_of}
+use Rattle.counters.specs.Sizes.{sizes_at, sizes_of}
 
 -- what the table opens is the layout of these widths
 opened_at : (t : List Fixed) (f : ℕ) → opened (fixed_rows t) f ≡ fields (widths (sizes_at t f)) (λ _. give nothing)
@@ -39,13 +34,6 @@ bytes_of k e h = rw e h
 pub items_of : (k : ℕ) {f n : ℕ} → f ≡ k → n ≡ length (sizes_of k) → n ≡ length (sizes_of f)
 items_of k e h = rw e h
 
-pub short_of : (k : ℕ) {f n : ℕ} (a : ℕ) (w : List ℕ) → f ≡ k → sizes w ≡ sizes_of k → n < a + total (sizes_of f) → n < a + total (sizes w)
-short_of k a w e r h = rw (r, ← e) h
-
-pub cut_of : (k : ℕ) {f : ℕ} (w s : List ℕ) (c : Cursor) {x : Outcome} → fields_out (widths (sizes w)) s (place c) ≡ refusal x → f ≡ k → sizes w ≡ sizes_of k
-    → fields_out (widths (sizes_of f)) s (place c) ≡ refusal x
-cut_of k w s c h e r = rw (e, ← r) h
-
 -- made by layouts/make from layouts/table: from here
 pub raw : (f : ℕ) → (f ≡ 1 → ⊥) → (f ≡ 2 → ⊥) → (f ≡ 3 → ⊥) → (f ≡ 4 → ⊥) → (f ≡ 5 → ⊥) → (f ≡ 1001 → ⊥)
     → sizes_of f ≡ []
@@ -60,9 +48,5 @@ no_bytes f e = rw e refl
 
 pub no_items : (f : ℕ) → sizes_of f ≡ [] → 0 ≡ length (sizes_of f)
 no_items f e = rw e refl
-
--- it cannot be cut
-pub none_cut : (f : ℕ) (s : List ℕ) (c : Cursor) {x : Outcome} → sizes_of f ≡ [] → Inside s c → length s < c.at + total (sizes_of f) → fields_out (widths (sizes_of f)) s (place c) ≡ refusal x
-none_cut f s c e i h = absurd (omega (arith, i.inside, ap total e, h))
 
 pub ruleset none = (no_bytes, no_items, raw, rules)

@@ -22,8 +22,8 @@ pub struct FixedAt {
 
 // Those of a format, and none where it stays raw.
 pub fn fixed(format: u32) -> Extent
-    ensures result_value { result.0 ≡ total (sizes_of format) }
-    ensures result_value_2 { result.1 ≡ length (sizes_of format) }
+    ensures bytes { result.0 ≡ total (sizes_of format) }
+    ensures items { result.1 ≡ length (sizes_of format) }
 {
     match format {
         // made by layouts/make from layouts/table: from here

@@ -32,6 +32,7 @@ fn first_cut(c: Cursor, s: &[u8], w: &[u8]) -> Outcome
 }
 
 // The same by the format. Apart from what passes a record, so that the widths come to the stack only where one is cut.
+#[tactic(auto, unfolding(crate::specs::Sizes::sizes_of, reading::specs::Layout::counters))]
 pub fn cut(c: Cursor, s: &[u8], format: u32) -> Outcome
     requires inside { Inside s.now c }
     requires s_len_bound { length s.now < c.at + total (sizes_of format) }

@@ -1,7 +1,7 @@
 -- Made by tests/examples/make, from the memo's structures: the flow records by the names of their fields, as the
 -- examples of `reading` have them. Assumes nothing.
 use Rattle.std.specs.Prelude.{◌≡◌, refl, List, [], ◌∷◌, map}
-use Rattle.reading.specs.Examples.{Result, of_fields, Example, flow_records_of}
+use Rattle.reading.specs.Examples.{Result, of_fields, Example, flow_records}
 use Rattle.xdr.specs.Shown.{answer_of}
 use Rattle.flow_layouts.specs.Shown.{sampled_header, sampled_ethernet, sampled_ipv4, sampled_ipv6, extended_switch, extended_router, extended_gateway, extended_user, extended_url, extended_mpls, extended_nat, extended_mpls_tunnel, extended_mpls_vc, extended_mpls_fec, extended_mpls_lvp_fec, extended_vlan_tunnel, extended_80211_payload, extended_80211_rx, extended_80211_tx, extended_80211_aggregation}
 use Rattle.flow_layouts.specs.declared.sampled.SampledHeader.{SampledHeader}
@@ -131,6 +131,6 @@ shown =
     ∷ of_fields (answer_of flow_1016.outcome (extended_80211_aggregation flow_1016))
     ∷ []
 
-pub the_names_hold : shown ≡ map (λ (e : Example). e.result) flow_records_of
-unfolding shown flow_records_of
+pub the_names_hold : shown ≡ map (λ (e : Example). e.result) flow_records
+unfolding shown flow_records
 the_names_hold = refl

@@ -12,7 +12,7 @@ use xdr::{Cursor, Passed};
 
 pub fn pass(c: Cursor, s: &[u8], format: u32, mode: Mode) -> Passed
     requires inside { Inside s.now c }
-    requires fact { format ≡ 1016 → ⊥ }
+    requires no_aggregation { format ≡ 1016 → ⊥ }
     ensures { passed_out result nothing ≡ follow (opened (flows (mode_of mode) (give nothing)) format) s.now (place c) }
 {
     let row = Row {

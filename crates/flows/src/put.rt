@@ -73,7 +73,7 @@ pub fn put_flat_records(
 }
 
 // n flow records in a row.
-#[cycle(put_flow_record_put_flow_records_put_pdus)]
+#[cycle(put)]
 fn put_flow_records(
     s: &[u8],
     at: usize,
@@ -114,7 +114,7 @@ fn put_flow_records(
 }
 
 // One flow record: its own descriptor, and, where it is an aggregation, its PDUs behind that.
-#[cycle(put_flow_record_put_flow_records_put_pdus)]
+#[cycle(put)]
 fn put_flow_record(s: &[u8], at: usize, left: usize, store: &mut [u32], pen: Pen) -> Written
     requires left_le_depth_limit { left ≤ depth_limit }
     requires ready { Ready s.now store.old pen (follow (flow base_mode depth_limit left) s.now (from at)) }
@@ -137,7 +137,7 @@ fn put_flow_record(s: &[u8], at: usize, left: usize, store: &mut [u32], pen: Pen
 // What the aggregation holds whose own descriptor is at a word, a PDU count and its PDUs; the word where the next descriptor begins. The records
 // of a PDU come first, then its own descriptor before them, whose length they give. Only this calls deeper, and all that it is handed and hands
 // back are numbers: those go by registers.
-#[cycle(put_flow_record_put_flow_records_put_pdus)]
+#[cycle(put)]
 pub fn put_pdus(
     s: &[u8],
     at: usize,

@@ -15,7 +15,7 @@ use layout::frames::{Frame, Scanned};
 use xdr::{Cursor, Passed, Word};
 
 // n flow records in a row, with `left` levels left for each.
-#[cycle(aggregation_flow_data_flow_record_flow_records_one_pdu_pdus)]
+#[cycle(scan)]
 pub fn flow_records(s: &[u8], c: Cursor, n: u32, left: usize, mode: Mode, count: usize) -> Scanned
     requires { Scan s.now c count }
     ensures { scanned_out result ≡ counted count (times n (follow (flow (mode_of mode) depth_limit left)) s.now (place c)) }
@@ -39,7 +39,7 @@ pub fn flow_records(s: &[u8], c: Cursor, n: u32, left: usize, mode: Mode, count:
 }
 
 // One flow record; where no level is left it may not begin.
-#[cycle(aggregation_flow_data_flow_record_flow_records_one_pdu_pdus)]
+#[cycle(scan)]
 fn flow_record(s: &[u8], c: Cursor, left: usize, mode: Mode, count: usize) -> Scanned
     requires { Scan s.now c count }
     ensures { scanned_out result ≡ counted count (follow (flow (mode_of mode) depth_limit left) s.now (place c)) }
@@ -71,7 +71,7 @@ fn flow_record(s: &[u8], c: Cursor, left: usize, mode: Mode, count: usize) -> Sc
 }
 
 // What a flow record of this format holds, with `left` levels left below it.
-#[cycle(aggregation_flow_data_flow_record_flow_records_one_pdu_pdus)]
+#[cycle(scan)]
 fn flow_data(s: &[u8], c: Cursor, format: u32, left: usize, mode: Mode, count: usize) -> Scanned
     requires { Scan s.now c count }
     ensures { scanned_out result ≡ counted count (follow (opened (flows (mode_of mode) (pdu (depth_limit - left) (flow (mode_of mode) depth_limit left))) format) s.now (place c)) }
@@ -86,7 +86,7 @@ fn flow_data(s: &[u8], c: Cursor, format: u32, left: usize, mode: Mode, count: u
 }
 
 // An aggregation: a PDU count and its PDUs.
-#[cycle(aggregation_flow_data_flow_record_flow_records_one_pdu_pdus)]
+#[cycle(scan)]
 fn aggregation(s: &[u8], c: Cursor, left: usize, mode: Mode, count: usize) -> Scanned
     requires { Scan s.now c count }
     ensures { scanned_out result ≡ counted count (follow (opened (flows (mode_of mode) (pdu (depth_limit - left) (flow (mode_of mode) depth_limit left))) 1016) s.now (place c)) }
@@ -101,7 +101,7 @@ fn aggregation(s: &[u8], c: Cursor, left: usize, mode: Mode, count: usize) -> Sc
 }
 
 // n PDUs in a row.
-#[cycle(aggregation_flow_data_flow_record_flow_records_one_pdu_pdus)]
+#[cycle(scan)]
 fn pdus(s: &[u8], c: Cursor, n: u32, left: usize, mode: Mode, count: usize) -> Scanned
     requires { Scan s.now c count }
     ensures { scanned_out result ≡ counted count (times n (follow (pdu (depth_limit - left) (flow (mode_of mode) depth_limit left))) s.now (place c)) }
@@ -125,7 +125,7 @@ fn pdus(s: &[u8], c: Cursor, n: u32, left: usize, mode: Mode, count: usize) -> S
 }
 
 // One PDU: a record count and its records.
-#[cycle(aggregation_flow_data_flow_record_flow_records_one_pdu_pdus)]
+#[cycle(scan)]
 fn one_pdu(s: &[u8], c: Cursor, left: usize, mode: Mode, count: usize) -> Scanned
     requires { Scan s.now c count }
     ensures { scanned_out result ≡ counted count (follow (pdu (depth_limit - left) (flow (mode_of mode) depth_limit left)) s.now (place c)) }

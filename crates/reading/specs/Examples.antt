@@ -166,9 +166,9 @@ stops ws m c a n k = record {
 -- ---- the examples
 
 -- the flow records
-unfoldable pub flow_records_of : List Example
+unfoldable pub flow_records : List Example
 unfolding in_mode v4 v6 lies accepts
-flow_records_of =
+flow_records =
     -- sampled_header, format 1: protocol, frame_length, stripped, header
     accepts 2 1 (0x0000000b ∷ 0x11121314 ∷ 0x15161718 ∷ 0x00000005 ∷ 0x191a1b1c ∷ 0x1df1f2f3 ∷ [])
     28 4 (number 11 ∷ number 0x11121314 ∷ number 0x15161718 ∷ lies 20 5 ∷ [])
@@ -532,8 +532,8 @@ undecoded =
     ∷ []
 
 pub examples : List Example
-unfolding flow_records_of counter_records sample_fields headers segments spans list_words two_modes refusals inputs undecoded
-examples = flow_records_of ++ counter_records ++ sample_fields ++ headers ++ segments ++ spans ++ list_words ++ two_modes ++ refusals ++ inputs ++ undecoded
+unfolding flow_records counter_records sample_fields headers segments spans list_words two_modes refusals inputs undecoded
+examples = flow_records ++ counter_records ++ sample_fields ++ headers ++ segments ++ spans ++ list_words ++ two_modes ++ refusals ++ inputs ++ undecoded
 
 pub the_examples_hold : (mode : Mode) → map (λ (e : Example). e.call mode e.input) examples ≡ map (λ (e : Example). e.result) examples
 unfolding examples be4 be8 among utf8 longest_to known header_protocols follow read_item address_of run_of field fields last_number opened flows flow counters samples datagram_to size rows header_of no_header valued reading layout_of answered read segment_at stored one tried datagrams run list_word_of payload_span_of whole_span_of

@@ -10,19 +10,19 @@ use Rattle.store.proofs.Loops.{Places}
 use Rattle.flows.proofs.Cycles.{called_at, called_below}
 use Rattle.flows.proofs.put.put_flow_record.Reads as put-flow-record
 use Rattle.flows.proofs.put.put_flow_record.Kinds as put-flow-record-kinds
-use Rattle.flows.proofs.put.+put_flow_record_put_flow_records_put_pdus.Lts-put_flow_record as put-flow-record-lts
+use Rattle.flows.proofs.put.+put.Lts-put_flow_record as put-flow-record-lts
 use Rattle.flows.proofs.put.put_flow_records.Reads as put-flow-records
 use Rattle.flows.proofs.put.put_flow_records.Kinds as put-flow-records-kinds
-use Rattle.flows.proofs.put.+put_flow_record_put_flow_records_put_pdus.Lts-put_flow_records as put-flow-records-lts
+use Rattle.flows.proofs.put.+put.Lts-put_flow_records as put-flow-records-lts
 use Rattle.flows.proofs.put.put_pdus.Reads as put-pdus
 use Rattle.flows.proofs.put.put_pdus.Kinds as put-pdus-kinds
-use Rattle.flows.proofs.put.+put_flow_record_put_flow_records_put_pdus.Lts-put_pdus as put-pdus-lts
+use Rattle.flows.proofs.put.+put.Lts-put_pdus as put-pdus-lts
 use Rattle.store.proofs.index_at.Reads as index-at-reads
 use Rattle.store.proofs.put.Reads as put_reads
 use Rattle.store.proofs.put_frame.Reads as put-frame-reads
 use Rattle.load.proofs.be32.Reads as be32-reads
-use Rattle.flows.proofs.put.+put_flow_record_put_flow_records_put_pdus.{statement}
-use Rattle.flows.proofs.put.+put_flow_record_put_flow_records_put_pdus.Tie.{close}
+use Rattle.flows.proofs.put.+put.{statement}
+use Rattle.flows.proofs.put.+put.Tie.{close}
 
 abbrev μ-put-flow-record : Measures 2 put-flow-record-kinds.ps ℕ
 μ-put-flow-record κs a = 4 * a.1.1.0
@@ -81,8 +81,8 @@ ruleset putting = (
   rules,
 )
 
-pub +put_flow_record_put_flow_records_put_pdus_spec : {M : Type 1} → statement M
-+put_flow_record_put_flow_records_put_pdus_spec =
+pub +put_spec : {M : Type 1} → statement M
++put_spec =
     close μ-put-flow-record μ-put-flow-records μ-put-pdus (λ t. put-flow-record-lts.spec (
       be32-reads.Asked,
       be32-reads.Learnt,

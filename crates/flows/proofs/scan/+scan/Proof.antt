@@ -13,32 +13,32 @@ use Rattle.layout.proofs.Loops.{Counts}
 use Rattle.flows.proofs.Cycles.{called_at, called_below}
 use Rattle.flows.proofs.scan.aggregation.Reads as aggregation
 use Rattle.flows.proofs.scan.aggregation.Kinds as aggregation-kinds
-use Rattle.flows.proofs.scan.+aggregation_flow_data_flow_record_flow_records_one_pdu_pdus.Lts-aggregation as aggregation-lts
+use Rattle.flows.proofs.scan.+scan.Lts-aggregation as aggregation-lts
 use Rattle.flows.proofs.scan.flow_data.Reads as flow-data
 use Rattle.flows.proofs.scan.flow_data.Kinds as flow-data-kinds
-use Rattle.flows.proofs.scan.+aggregation_flow_data_flow_record_flow_records_one_pdu_pdus.Lts-flow_data as flow-data-lts
+use Rattle.flows.proofs.scan.+scan.Lts-flow_data as flow-data-lts
 use Rattle.flows.proofs.scan.flow_record.Reads as flow-record
 use Rattle.flows.proofs.scan.flow_record.Kinds as flow-record-kinds
-use Rattle.flows.proofs.scan.+aggregation_flow_data_flow_record_flow_records_one_pdu_pdus.Lts-flow_record as flow-record-lts
-use Rattle.flows.proofs.scan.flow_records.Reads as flow_records_of
+use Rattle.flows.proofs.scan.+scan.Lts-flow_record as flow-record-lts
+use Rattle.flows.proofs.scan.flow_records.Reads as flow-records
 use Rattle.flows.proofs.scan.flow_records.Kinds as flow-records-kinds
-use Rattle.flows.proofs.scan.+aggregation_flow_data_flow_record_flow_records_one_pdu_pdus.Lts-flow_records as flow-records-lts
+use Rattle.flows.proofs.scan.+scan.Lts-flow_records as flow-records-lts
 use Rattle.flows.proofs.scan.one_pdu.Reads as one-pdu
 use Rattle.flows.proofs.scan.one_pdu.Kinds as one-pdu-kinds
-use Rattle.flows.proofs.scan.+aggregation_flow_data_flow_record_flow_records_one_pdu_pdus.Lts-one_pdu as one-pdu-lts
+use Rattle.flows.proofs.scan.+scan.Lts-one_pdu as one-pdu-lts
 use Rattle.flows.proofs.scan.pdus.Reads as pdus
 use Rattle.flows.proofs.scan.pdus.Kinds as pdus-kinds
-use Rattle.flows.proofs.scan.+aggregation_flow_data_flow_record_flow_records_one_pdu_pdus.Lts-pdus as pdus-lts
+use Rattle.flows.proofs.scan.+scan.Lts-pdus as pdus-lts
 use Rattle.flow_layouts.proofs.data.pass.Reads as pass-reads
 use Rattle.layout.proofs.frames.Frame.parse.Reads as frames-Frame-parse-reads
 use Rattle.flow_layouts.proofs.wireless.Extended80211Aggregation.parse.Reads as wireless-Extended80211Aggregation-parse-reads
 use Rattle.xdr.proofs.Cursor.read_u32.Reads as read-u32-reads
 use Rattle.xdr.proofs.Cursor.refusal.Reads as refusal-reads
 use Rattle.xdr.proofs.Outcome.passed.Reads as Passed-reads
-use Rattle.flows.proofs.scan.+aggregation_flow_data_flow_record_flow_records_one_pdu_pdus.{
+use Rattle.flows.proofs.scan.+scan.{
   statement,
 }
-use Rattle.flows.proofs.scan.+aggregation_flow_data_flow_record_flow_records_one_pdu_pdus.Tie.{
+use Rattle.flows.proofs.scan.+scan.Tie.{
   close,
 }
 
@@ -104,9 +104,9 @@ ruleset scanning = (
   rules,
 )
 
-pub +aggregation_flow_data_flow_record_flow_records_one_pdu_pdus_spec : {M : Type 1} → statement M
+pub +scan_spec : {M : Type 1} → statement M
 unfolding layout_of flows
-+aggregation_flow_data_flow_record_flow_records_one_pdu_pdus_spec =
++scan_spec =
     close
     μ-aggregation
     μ-flow-data
@@ -176,8 +176,8 @@ unfolding layout_of flows
     )
     (λ t. flow-records-lts.spec
     (called_below 1 flow-record-kinds.ps μ-flow-record flow-record.Pre t, flow-record.Post)
-    (called_at 1 flow-records-kinds.ps μ-flow-records flow_records_of.Pre t)
-    flow_records_of.Post
+    (called_at 1 flow-records-kinds.ps μ-flow-records flow-records.Pre t)
+    flow-records.Post
     flow-records-Inv-loop
     flow-records-μ-loop
     (λ c. search scanning)  -- flow-records-loop-holds
@@ -193,8 +193,8 @@ unfolding layout_of flows
     (λ t. one-pdu-lts.spec (
       read-u32-reads.Asked,
       read-u32-reads.Learnt,
-      called_below 1 flow-records-kinds.ps μ-flow-records flow_records_of.Pre t,
-      flow_records_of.Post,
+      called_below 1 flow-records-kinds.ps μ-flow-records flow-records.Pre t,
+      flow-records.Post,
     )
     (called_at 1 one-pdu-kinds.ps μ-one-pdu one-pdu.Pre t)
     one-pdu.Post
