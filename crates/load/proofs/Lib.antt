@@ -1,3 +1,1 @@
-pub mod Orders
-pub mod Signed
 pub mod Contracts

@@ -1,9 +1,4 @@
-pub mod Windows
-pub mod Inside
 pub mod Laws
-pub mod Fixed
-pub mod Rows
-pub mod Ends
 pub mod Settles
 pub mod Lossless
 pub mod Contracts

@@ -1,32 +1,18 @@
--- What is shown of a result loses nothing: an item's answer, a span, an address and a block are got back from it. Assumes nothing.
-use Prim.Native.Nat.{ℕ}
-use mathlib.Core.Path.{◌≡◌, refl, ap, ◌∙◌}
-use mathlib.Core.List.{List, [], ◌∷◌, ◌++◌}
-use lib.IntN.{ℤ, pos}
-use lib.ListN.{take, drop, get_or, take-append-drop}
+-- What is shown of a result loses nothing: an item's answer, a span, an address and a refusal are got back from it. Assumes nothing.
+use Rattle.std.proofs.Common.{ℕ, ◌≡◌, refl, ap, ◌∙◌, sym, List, [], ◌∷◌, get_or, ℤ, pos, Ok, Err}
 use Rattle.reading.specs.Script as script
-use Rattle.reading.specs.Script.{Value, number, integer, octets, address, part, bare, nothing, Found}
-use Rattle.reading.specs.Cursor.{Out, got, stop}
+use Rattle.reading.specs.Script.{Value, number, integer, octets, address, part, nothing, Found}
+use Rattle.reading.specs.Cursor.{Place, Out, got, stop}
 use Rattle.reading.specs.Layout.{num, oct}
-use Rattle.reading.specs.Values.{Reading}
 use Rattle.reading.specs.Answer.{Fields, kind_of, no_span}
 use Rattle.xdr.specs.declared.Address.{Address}
-use Rattle.xdr.specs.declared.Addressed.{Addressed}
-use Rattle.xdr.specs.declared.Block.{Block}
 use Rattle.xdr.specs.declared.Cursor.{Cursor}
-use Rattle.xdr.specs.declared.Int.{Int}
-use Rattle.xdr.specs.declared.Int.TheVariants as int
-use Rattle.xdr.specs.declared.Long.{Long}
-use Rattle.xdr.specs.declared.Long.TheVariants as long
 use Rattle.xdr.specs.declared.Outcome.{Outcome}
-use Rattle.xdr.specs.declared.Part.{Part}
-use Rattle.xdr.specs.declared.Part.TheVariants as is_part
-use Rattle.xdr.specs.declared.Passed.{Passed}
-use Rattle.xdr.specs.declared.Passed.TheVariants as passed
+use Rattle.xdr.specs.declared.Reason.{Reason}
+use Rattle.xdr.specs.declared.Reason.TheVariants.{InputTooLong, Cut, Version, AddressType, OpaqueTooLong, HeaderProtocol, IllFormed, TooDeep, NoRoom, OutsideInput, OtherFormat}
+use Rattle.xdr.specs.declared.Refusal.{Refusal}
 use Rattle.xdr.specs.declared.Span.{Span}
-use Rattle.xdr.specs.declared.Word.{Word}
-use Rattle.xdr.specs.declared.Word.TheVariants as word
-use Rattle.xdr.specs.Shown.{an_address, int_out, long_out, part_out, passed_out, shown, span, word_out}
+use Rattle.xdr.specs.Shown.{Passed, Read, a_part, an_address, code_of, ended, passed_out, read_out, span}
 use Rattle.xdr.proofs.Settles.{Lossless, got_back}
 
 -- ---- a value, taken back
@@ -51,11 +37,23 @@ integer_of (part x) = pos 0
 abbrev address_of : Value → Address
 address_of v = record { kind = kind_of v; bytes = oct v }
 
-abbrev first : Reading → Value
-first x = get_or x.values 0 (number 0)
-
 pub span_lossless : Lossless span
 span_lossless = got_back span_back (λ x. refl)
+
+pub part_lossless : Lossless a_part
+part_lossless = got_back range_of (λ x. refl)
+
+pub address_lossless : Lossless an_address
+address_lossless = got_back address_of (λ x. refl)
+
+pub number_lossless : Lossless number
+number_lossless = got_back num (λ x. refl)
+
+pub integer_lossless : Lossless integer
+integer_lossless = got_back integer_of (λ x. refl)
+
+pub octets_lossless : Lossless octets
+octets_lossless = got_back oct (λ x. refl)
 
 -- ---- what field reading answers, taken back: the outcome, and a field from the value with this index
 
@@ -77,75 +75,76 @@ address_at x i = address_of (value_at x i)
 abbrev pub range_at : Fields → ℕ → Span
 range_at x i = range_of (value_at x i)
 
--- ---- an item's answer, by what is made of its value and the cursor behind it, or of its refusal
+-- ---- a refusal, from its numbers
 
-abbrev made : {A R : Type 0} → (A → Cursor → R) → (Outcome → R) → Out A → R
-made read refused (got v p) = read v (record { at = p.at; steps = p.steps })
-made read refused (stop c a n) = refused (record { code = c; at = a; steps = n })
+-- the reason with this code
+abbrev reason_of : ℕ → Reason
+reason_of c = get_or (Cut ∷ InputTooLong ∷ Cut ∷ Version ∷ AddressType ∷ OpaqueTooLong ∷ HeaderProtocol ∷ IllFormed ∷ TooDeep ∷ NoRoom ∷ OutsideInput ∷ OtherFormat ∷ []) c Cut
 
-abbrev word_back : Out Value → Word
-word_back = made (λ v. word.Got (num v)) word.Stop
+reason_same : (r : Reason) → reason_of (code_of r) ≡ r
+reason_same InputTooLong = refl
+reason_same Cut = refl
+reason_same Version = refl
+reason_same AddressType = refl
+reason_same OpaqueTooLong = refl
+reason_same HeaderProtocol = refl
+reason_same IllFormed = refl
+reason_same TooDeep = refl
+reason_same NoRoom = refl
+reason_same OutsideInput = refl
+reason_same OtherFormat = refl
 
-pub word_lossless : Lossless word_out
-word_lossless = got_back word_back same
-  where
-    same : (r : Word) → word_back (word_out r) ≡ r
-    same (word.Got v c) = refl
-    same (word.Stop x) = refl
+pub reason_lossless : Lossless code_of
+reason_lossless = got_back reason_of reason_same
 
-abbrev long_back : Out Value → Long
-long_back = made (λ v. long.Got (num v)) long.Stop
+abbrev refusal_back : (code at steps : ℕ) → Refusal
+refusal_back c a n = record { reason = reason_of c; at = a; steps = n }
 
-pub long_lossless : Lossless long_out
-long_lossless = got_back long_back same
-  where
-    same : (r : Long) → long_back (long_out r) ≡ r
-    same (long.Got v c) = refl
-    same (long.Stop x) = refl
+refusal_same : (x : Refusal) → refusal_back (code_of x.reason) x.at x.steps ≡ x
+refusal_same x = ap (λ (r : Reason). record { reason = r; at = x.at; steps = x.steps }) (reason_same x.reason)
 
-abbrev int_back : Out Value → Int
-int_back = made (λ v. int.Got (integer_of v)) int.Stop
+pub refusal_lossless : Lossless ended
+refusal_lossless = got_back (λ (o : Outcome). refusal_back o.code o.at o.steps) refusal_same
 
-pub int_lossless : Lossless int_out
-int_lossless = got_back int_back same
-  where
-    same : (r : Int) → int_back (int_out r) ≡ r
-    same (int.Got v c) = refl
-    same (int.Stop x) = refl
+-- ---- an item's answer, whose value is got back from what is shown of it
 
-abbrev part_back : Out Value → Part
-part_back = made (λ v. is_part.Got (range_of v)) is_part.Stop
+abbrev cursor_at : Place → Cursor
+cursor_at p = record { at = p.at; steps = p.steps }
 
-pub part_lossless : Lossless part_out
-part_lossless = got_back part_back same
-  where
-    same : (r : Part) → part_back (part_out r) ≡ r
-    same (is_part.Got x c) = refl
-    same (is_part.Stop x) = refl
+module _ {A B : Type 0} (shown : A → B) (back : B → A) (same : (a : A) → back (shown a) ≡ a) where
+  abbrev read_back : Out B → Read A
+  read_back (got b p) = Ok (back b, cursor_at p)
+  read_back (stop c a n) = Err (refusal_back c a n)
 
--- ---- what was passed, with or without values beside it
+  pub read_lossless : Lossless (read_out shown)
+  read_lossless = got_back read_back again
+    where
+      again : (r : Read A) → read_back (read_out shown r) ≡ r
+      again (Ok r) = ap (λ (a : A). Ok (a, r.1)) (same r.0)
+      again (Err x) = ap (λ (y : Refusal). Err y) (refusal_same x)
+
+pub word_lossless : Lossless (read_out number)
+word_lossless = read_lossless number num (λ x. refl)
+
+pub int_lossless : Lossless (read_out integer)
+int_lossless = read_lossless integer integer_of (λ x. refl)
+
+pub part_read_lossless : Lossless (read_out a_part)
+part_read_lossless = read_lossless a_part range_of (λ x. refl)
+
+pub address_read_lossless : Lossless (read_out an_address)
+address_read_lossless = read_lossless an_address address_of (λ x. refl)
+
+pub block_lossless : Lossless (read_out octets)
+block_lossless = read_lossless octets oct (λ x. refl)
 
 abbrev passed_back : Out Found → Passed
-passed_back = made (λ v. passed.Got) passed.Stop
-
-passed_same : (a : Found) (r : Passed) → passed_back (passed_out r a) ≡ r
-passed_same a (passed.Got c) = refl
-passed_same a (passed.Stop x) = refl
+passed_back (got a p) = Ok (cursor_at p)
+passed_back (stop c a n) = Err (refusal_back c a n)
 
 pub passed_lossless : Lossless (λ r. passed_out r nothing)
-passed_lossless = got_back passed_back (passed_same nothing)
-
-pub address_lossless : Lossless (λ (r : Addressed). shown r.passed (an_address r.address ∷ []))
-address_lossless = got_back
-    (λ (x : Reading). record { passed = passed_back x.out; address = address_of (first x) })
-    (λ r. ap (λ (p : Passed). record { passed = p; address = r.address }) (passed_same (record { values = an_address r.address ∷ []; ranges = bare }) r.passed))
-
--- a block: what was passed with its first n bytes, and the bytes behind those
-abbrev pub block_shown : ℕ → Block → Reading × List ℕ
-block_shown n r = (shown r.passed (octets (take n r.bytes) ∷ []), drop n r.bytes)
-
-pub block_lossless : (n : ℕ) → Lossless (block_shown n)
-block_lossless n = got_back
-    (λ (x : Reading × List ℕ). record { passed = passed_back x.0.out; bytes = oct (first x.0) ++ x.1 })
-    (λ r. ap (λ (p : Passed). record { passed = p; bytes = take n r.bytes ++ drop n r.bytes }) (passed_same (record { values = octets (take n r.bytes) ∷ []; ranges = bare }) r.passed)
-    ∙ ap (λ (b : List ℕ). record { passed = r.passed; bytes = b }) (take-append-drop n r.bytes))
+passed_lossless = got_back passed_back same
+  where
+    same : (r : Passed) → passed_back (passed_out r nothing) ≡ r
+    same (Ok c) = refl
+    same (Err x) = ap (λ (y : Refusal). Err y) (refusal_same x)

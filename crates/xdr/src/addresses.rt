@@ -1,65 +1,38 @@
 // Addresses: a type word, and as many bytes as the type has.
-ghost use Rattle.std.specs.Prelude.{◌≡◌, [], ◌∷◌};
+ghost use Rattle.std.specs.Prelude.{◌≡◌, ◌++◌, ◌-◌, ◌<◌, ◌≤◌, take, drop, replicate};
+ghost use Rattle.reading.specs.Script.{address};
+ghost use Rattle.reading.specs.Cursor.{fixed};
 ghost use Rattle.reading.specs.Layout.{addr};
-ghost use Rattle.reading.proofs.Addresses.{Typed};
-ghost use Rattle.reading.proofs.Fields.{address_out};
-ghost use Rattle.xdr.specs.Shown.{Inside, Reads, place, width, an_address, address_shown, address_valued, no_address};
+ghost use Rattle.reading.proofs.Fields.{field_out};
+ghost use Rattle.xdr.specs.Shown.{Inside, place, an_address, read_out};
 
-use crate::{Address, Addressed, Cursor, Outcome, Passed, Width, Word};
-
-// What a refused address answers.
-fn refused_address(r: Outcome) -> Addressed
-    ensures { result ≡ no_address r }
-{
-    Addressed {
-        passed: Passed::Stop(r),
-        address: Address {
-            kind: 0,
-            bytes: [0u8; 16],
-        },
-    }
-}
+use crate::{Address, Cursor, Read, Reason};
 
 impl Cursor {
-    // What follows the type word of an address of this kind and width.
-    fn address_of(self, s: &[u8], kind: u32, w: Width) -> Addressed
+    // What follows the type word of an address of N bytes, and zero behind them.
+    #[tactic(auto, unfolding(reading::specs::Cursor::fixed, reading::specs::Cursor::read_item))]
+    fn address_of<const N: usize>(self, s: &[u8], kind: u32) -> Read<Address>
         requires inside { Inside s.now self }
-        requires typed { Typed (width w) kind }
-        ensures { address_shown result ≡ address_valued (address_out kind s.now (place self)) }
+        requires some { (0 < N) × (N ≤ 16) }
+        ensures { read_out an_address result ≡ fixed N (address kind (take N (drop self.at s.now) ++ replicate (16 - N) 0)) s.now (place self) }
     {
-        let block = self.read_fixed(s, w);
-        let passed = block.passed;
-        let bytes = block.bytes;
-        match passed {
-            Passed::Stop(r) => refused_address(r),
-            Passed::Got(d) => Addressed {
-                passed: Passed::Got(d),
-                address: Address {
-                    kind: kind,
-                    bytes: bytes,
-                },
-            },
-        }
+        let (block, d) = self.read_fixed::<N>(s)?;
+        let mut bytes = [0; 16];
+        bytes[..N].copy_from_slice(&block);
+        Ok((Address { kind, bytes }, d))
     }
 
-    pub fn parse_address(self, s: &[u8]) -> Addressed
+    #[tactic(auto, unfolding(reading::specs::Cursor::fixed, reading::specs::Cursor::read_item, reading::proofs::Fields::field_out, reading::proofs::Fields::address_out))]
+    pub fn parse_address(self, s: &[u8]) -> Read<Address>
         requires { Inside s.now self }
-        ensures { Reads (addr ∷ []) s.now self result.passed (an_address result.address ∷ []) }
+        ensures { read_out an_address result ≡ field_out addr s.now (place self) }
     {
-        match self.read_u32(s) {
-            Word::Stop(r) => refused_address(r),
-            Word::Got(kind, d) => match kind {
-                0 => Addressed {
-                    passed: Passed::Got(d),
-                    address: Address {
-                        kind: 0,
-                        bytes: [0u8; 16],
-                    },
-                },
-                1 => d.address_of(s, 1, Width::Four),
-                2 => d.address_of(s, 2, Width::Sixteen),
-                _ => refused_address(self.refusal(4)),
-            },
+        let (kind, d) = self.read_u32(s)?;
+        match kind {
+            0 => Ok((Address::default(), d)),
+            1 => d.address_of::<4>(s, kind),
+            2 => d.address_of::<16>(s, kind),
+            _ => Err(self.refusal(Reason::AddressType)),
         }
     }
 }

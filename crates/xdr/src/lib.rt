@@ -2,7 +2,7 @@
 #![tactic(auto)]
 
 ghost use Rattle.std.specs.Prelude.{◌≡◌, ◌+◌, ◌^◌, ◌≤◌, ◌<◌};
-ghost use Rattle.xdr.specs.Shown.{refused, ill_formed_of, accepted, behind, passed_of};
+ghost use Rattle.xdr.specs.Shown.{accepted, behind, code_of, ended, ill_formed_of, passed_of, refused};
 
 mod addresses;
 mod blocks;
@@ -22,7 +22,37 @@ pub struct Cursor {
     pub steps: usize,
 }
 
-// How a reading ends: its code (docs/RULES.md, 5), the position, and the items read. Code 0 is no refusal.
+// Why nothing is read on, by its code (docs/RULES.md, 5).
+#[derive(Clone, Copy, PartialEq, Eq)]
+pub enum Reason {
+    InputTooLong = 1,
+    Cut = 2,
+    Version = 3,
+    AddressType = 4,
+    OpaqueTooLong = 5,
+    HeaderProtocol = 6,
+    IllFormed = 7,
+    TooDeep = 8,
+    NoRoom = 9,
+    OutsideInput = 10,
+    OtherFormat = 11,
+}
+
+// A refusal: why, the position, and the items read before it.
+#[derive(Clone, Copy)]
+pub struct Refusal {
+    pub reason: Reason,
+    pub at: usize,
+    pub steps: usize,
+}
+
+// What was read, and the cursor behind it; or a refusal.
+pub type Read<T> = Result<(T, Cursor), Refusal>;
+
+// What was read is passed, and its value is not in the answer.
+pub type Passed = Result<Cursor, Refusal>;
+
+// How a reading ends, in plain numbers: its code, the position, and the items read. Code 0 is no refusal.
 #[repr(C)]
 #[derive(Clone, Copy)]
 pub struct Outcome {
@@ -33,94 +63,38 @@ pub struct Outcome {
 
 // A range of the input.
 #[repr(C)]
-#[derive(Clone, Copy)]
+#[derive(Clone, Copy, Default)]
 pub struct Span {
     pub start: usize,
     pub count: usize,
 }
 
-// A u32 with the cursor behind it, or a refusal; the other items answer likewise.
-#[derive(Clone, Copy)]
-pub enum Word {
-    Got(u32, Cursor),
-    Stop(Outcome),
-}
-
-#[derive(Clone, Copy)]
-pub enum Long {
-    Got(u64, Cursor),
-    Stop(Outcome),
-}
-
-#[derive(Clone, Copy)]
-pub enum Int {
-    Got(i32, Cursor),
-    Stop(Outcome),
-}
-
-// Where an opaque or a string has its bytes.
-#[derive(Clone, Copy)]
-pub enum Part {
-    Got(Span, Cursor),
-    Stop(Outcome),
-}
-
-// What was read is passed, and its value is not in the answer.
-#[derive(Clone, Copy)]
-pub enum Passed {
-    Got(Cursor),
-    Stop(Outcome),
-}
-
-// How many bytes a fixed block has.
-#[derive(Clone, Copy)]
-pub enum Width {
-    Four,
-    Six,
-    Eight,
-    Sixteen,
-}
-
-// A fixed block: its bytes, and zero behind them; all zero on a refusal. An enum holds no array, so they stand beside the answer.
-#[derive(Clone, Copy)]
-pub struct Block {
-    pub passed: Passed,
-    pub bytes: [u8; 16],
-}
-
 // An address: its type, and sixteen bytes of which type 1 uses the first four; unused ones are zero.
 #[repr(C)]
-#[derive(Clone, Copy)]
+#[derive(Clone, Copy, Default)]
 pub struct Address {
     pub kind: u32,
     pub bytes: [u8; 16],
 }
 
-// All zero on a refusal.
-#[derive(Clone, Copy)]
-pub struct Addressed {
-    pub passed: Passed,
-    pub address: Address,
-}
-
 impl Cursor {
     // The refusal of the item at the cursor.
-    pub fn refusal(self, code: u32) -> Outcome
-        ensures { result ≡ refused code self }
+    pub fn refusal(self, reason: Reason) -> Refusal
+        ensures { result ≡ refused reason self }
     {
-        Outcome {
-            code: code,
+        Refusal {
+            reason,
             at: self.at,
             steps: self.steps,
         }
     }
 
     // The refusal of the string at the cursor, whose bytes go bad at `at`.
-    pub fn ill_formed(self, at: usize) -> Outcome
+    pub fn ill_formed(self, at: usize) -> Refusal
         ensures { result ≡ ill_formed_of at self }
     {
-        Outcome {
-            code: 7,
+        Refusal {
+            reason: Reason::IllFormed,
             at: at,
             steps: self.steps,
         }
@@ -149,17 +123,37 @@ impl Cursor {
     }
 }
 
+impl Reason {
+    pub fn code(self) -> u32
+        ensures { result ≡ code_of self }
+    {
+        self as u32
+    }
+}
+
+impl From<Refusal> for Outcome {
+    ghost from_gives = { λ x o. o ≡ ended x };
+
+    fn from(x: Refusal) -> Outcome {
+        Outcome {
+            code: x.reason.code(),
+            at: x.at,
+            steps: x.steps,
+        }
+    }
+}
+
 impl Outcome {
     // What is read on from.
-    pub fn passed(self) -> Passed
+    pub fn passed(self) -> Result<Cursor, Outcome>
         ensures { result ≡ passed_of self }
     {
         if self.code == 0 {
-            return Passed::Got(Cursor {
+            return Ok(Cursor {
                 at: self.at,
                 steps: self.steps,
             });
         }
-        Passed::Stop(self)
+        Err(self)
     }
 }
