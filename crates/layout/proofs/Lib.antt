@@ -1,6 +1,3 @@
-pub mod Chain
-pub mod Whole
-pub mod Counts
+pub mod Laws
 pub mod Protocols
-pub mod Scan
-pub mod Loops
+pub mod Records

@@ -1,4 +1,2 @@
-pub mod Chain
 pub mod Shown
 pub mod Scanned
-pub mod Examples

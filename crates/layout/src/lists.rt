@@ -1,128 +1,78 @@
 // What is counted: a list, which is a count word and that many words; and the segments of an AS path.
-ghost use Rattle.std.specs.Prelude.{◌≡◌, [], ◌∷◌};
-ghost use Rattle.reading.specs.Script.{part, nothing};
-ghost use Rattle.reading.specs.Cursor.{times, follow};
+ghost use Rattle.std.specs.Prelude.{◌≡◌};
+ghost use Rattle.reading.specs.Script.{nothing};
+ghost use Rattle.reading.specs.Cursor.{follow};
 ghost use Rattle.reading.specs.Layout.{list, segments, segment};
 ghost use Rattle.reading.specs.Answer.{segment_fields};
-ghost use Rattle.xdr.specs.Shown.{Inside, Reads, Answers, place, span, passed_out};
-ghost use Rattle.layout.specs.Chain.{Within, Then, counted};
+ghost use Rattle.reading.proofs.Fields.{field_out};
+ghost use Rattle.xdr.specs.Shown.{Inside, a_part, place, passed_out, read_out};
 ghost use Rattle.layout.specs.Shown.{a_segment};
 
-use crate::field;
-use xdr::{Cursor, Outcome, Passed, Span, Word};
+use crate::field::Mode;
+use crate::record::Record;
+use xdr::{Cursor, Passed, Read, Span};
 
-// Where something lies: for what is counted the first of it, and how many. Zero on a refusal.
-#[derive(Clone, Copy)]
-pub struct Ranged {
-    pub passed: Passed,
-    pub span: Span,
-}
-
-// What was counted, once it is passed or refused.
-fn counted(start: usize, n: u32, p: Passed) -> Ranged
-    ensures { result ≡ counted start n p }
-{
-    match p {
-        Passed::Stop(r) => Ranged {
-            passed: Passed::Stop(r),
-            span: Span { start: 0, count: 0 },
-        },
-        Passed::Got(d) => Ranged {
-            passed: Passed::Got(d),
-            span: Span {
-                start: start,
-                count: n as usize,
-            },
-        },
-    }
-}
-
-pub fn list(c: Cursor, s: &[u8]) -> Ranged
+#[tactic(auto, unfolding(reading::specs::Cursor::fixed, reading::specs::Cursor::read_item, reading::proofs::Fields::field_out, reading::proofs::Fields::run_out))]
+pub fn list(c: Cursor, s: &[u8]) -> Read<Span>
     requires { Inside s.now c }
-    ensures { Reads (list ∷ []) s.now c result.passed (part (span result.span) ∷ []) }
+    ensures { read_out a_part result ≡ field_out list s.now (place c) }
 {
-    match c.read_u32(s) {
-        Word::Stop(r) => counted(0, 0, Passed::Stop(r)),
-        Word::Got(n, d) => counted(d.at, n, d.read_words(s, n)),
-    }
-}
-
-fn list_behind(p: Passed, s: &[u8]) -> Ranged
-    requires { Within s.now p }
-    ensures { Then (list ∷ []) s.now p result.passed (part (span result.span) ∷ []) }
-{
-    match p {
-        Passed::Stop(r) => counted(0, 0, Passed::Stop(r)),
-        Passed::Got(c) => list(c, s),
-    }
+    let (n, first) = c.read_u32(s)?;
+    let end = first.read_words(s, n)?;
+    let list = Span {
+        start: first.at,
+        count: n as usize,
+    };
+    Ok((list, end))
 }
 
 // A segment of an AS path: its type, and where its AS numbers lie.
 #[repr(C)]
-#[derive(Clone, Copy)]
+#[derive(Clone, Copy, Default)]
 pub struct Segment {
-    pub outcome: Outcome,
     pub kind: u32,
     pub path: Span,
 }
 
-impl Segment {
-    pub fn parse(p: Passed, s: &[u8]) -> Segment
-        requires { Within s.now p }
-        ensures { Answers segment_fields s.now p result.outcome (a_segment result) }
-    {
-        let first = field::word(p, s);
-        let passed = first.passed;
-        let row = list_behind(passed, s);
-        let passed = row.passed;
-        let path = row.span;
-        match passed {
-            Passed::Stop(r) => Segment {
-                outcome: r,
-                kind: 0,
-                path: Span { start: 0, count: 0 },
-            },
-            Passed::Got(d) => Segment {
-                outcome: d.accepted(),
-                kind: first.value,
-                path: path,
-            },
-        }
+impl Record for Segment {
+    ghost layout = { λ _. segment_fields };
+
+    ghost values = { a_segment };
+
+    fn zero() -> Segment {
+        Segment::default()
+    }
+
+    #[tactic(auto, unfolding(reading::specs::Cursor::fixed, reading::specs::Cursor::read_item, reading::proofs::Fields::field_out, reading::proofs::Fields::fields_out))]
+    fn read(c: Cursor, s: &[u8], _mode: Mode) -> Read<Segment> {
+        let (kind, c) = c.read_u32(s)?;
+        let (path, c) = list(c, s)?;
+        Ok((Segment { kind, path }, c))
     }
 }
 
-fn one_segment(c: Cursor, s: &[u8]) -> Passed
+// One segment, passed.
+#[tactic(auto, unfolding(reading::specs::Cursor::follow, reading::specs::Layout::fields, reading::specs::Layout::field, reading::specs::Layout::run_of, reading::proofs::Fields::fields_out, reading::proofs::Fields::field_out, reading::proofs::Fields::run_out))]
+fn past_segment(c: Cursor, s: &[u8]) -> Passed
     requires { Inside s.now c }
     ensures { passed_out result nothing ≡ follow segment s.now (place c) }
 {
-    Segment::parse(Passed::Got(c), s).outcome.passed()
+    let (_, end) = Segment::read(c, s, Mode::Memo)?;
+    Ok(end)
 }
 
-// n segments, one a turn.
-fn each_segment(c: Cursor, s: &[u8], n: u32) -> Passed
+pub fn segments(c: Cursor, s: &[u8]) -> Read<Span>
     requires { Inside s.now c }
-    ensures { passed_out result nothing ≡ times n (follow segment) s.now (place c) }
+    ensures { read_out a_part result ≡ field_out segments s.now (place c) }
 {
-    let mut cur = c;
-    let mut left = n;
-    while 0 < left {
-        match one_segment(cur, s) {
-            Passed::Stop(r) => return Passed::Stop(r),
-            Passed::Got(d) => {
-                cur = d;
-            }
-        }
-        left = left - 1;
+    let (n, first) = c.read_u32(s)?;
+    let mut end = first;
+    for i in 0..n {
+        end = past_segment(end, s)?;
     }
-    Passed::Got(cur)
-}
-
-pub fn segments(c: Cursor, s: &[u8]) -> Ranged
-    requires { Inside s.now c }
-    ensures { Reads (segments ∷ []) s.now c result.passed (part (span result.span) ∷ []) }
-{
-    match c.read_u32(s) {
-        Word::Stop(r) => counted(0, 0, Passed::Stop(r)),
-        Word::Got(n, d) => counted(d.at, n, each_segment(d, s, n)),
-    }
+    let path = Span {
+        start: first.at,
+        count: n as usize,
+    };
+    Ok((path, end))
 }

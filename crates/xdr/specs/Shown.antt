@@ -85,6 +85,11 @@ abbrev pub passed_out : {A : Type 0} → Passed → A → Out A
 passed_out (Ok c) a = got a (place c)
 passed_out (Err x) a = refusal x
 
+-- read on from p: a refusal is handed on
+abbrev pub passed_on : {A : Type 0} → (Place → Out A) → Passed → Out A
+passed_on read (Ok c) = read (place c)
+passed_on read (Err x) = refusal x
+
 -- the layout l, read on from p: a refusal is handed on
 abbrev pub read_on : List Field → List ℕ → Passed → Reading
 read_on l s (Ok c) = reading l s (place c)
