@@ -3,61 +3,78 @@ ghost use Rattle.std.specs.Prelude.{◌≡◌};
 ghost use Rattle.reading.specs.Script.{give, nothing};
 ghost use Rattle.reading.specs.Cursor.{follow};
 ghost use Rattle.reading.specs.Layout.{opened, flows};
+ghost use Rattle.reading.specs.Answer.{layout_of};
 ghost use Rattle.xdr.specs.Shown.{Inside, place, passed_out};
-ghost use Rattle.layout.specs.Chain.{mode_of};
+ghost use Rattle.layout.specs.Passing.{row_of};
+ghost use Rattle.layout.specs.Shown.{mode_of};
 
 use layout::field::Mode;
-use layout::pass::Row;
+use layout::pass;
+use layout::pass::Field;
 use xdr::{Cursor, Passed};
+
+// The fields of a format; none where it stays raw.
+#[tactic(auto, unfolding(reading::specs::Answer::layout_of, reading::specs::Layout::flows))]
+fn row(format: u32, mode: Mode) -> &'static [Field]
+    requires { format ≡ 1016 → ⊥ }
+    ensures { row_of result.now ≡ layout_of (mode_of mode) 2 format }
+{
+    match format {
+        // made by layouts/make from layouts/table: from here
+        1 => &[Field::Protocol, Field::Words(2), Field::Opaque],
+        2 => match mode {
+            Mode::Memo => &[Field::Words(1), Field::Mac, Field::Mac, Field::Words(1)],
+            Mode::Base => &[Field::Words(1), Field::Six, Field::Six, Field::Words(1)],
+        },
+        3 => &[Field::Words(8)],
+        4 => &[
+            Field::Words(2),
+            Field::Sixteen,
+            Field::Sixteen,
+            Field::Words(4),
+        ],
+        1001 => &[Field::Words(4)],
+        1002 => &[Field::Address, Field::Words(2)],
+        1003 => &[
+            Field::Address,
+            Field::Words(3),
+            Field::Segments,
+            Field::List,
+            Field::Words(1),
+        ],
+        1004 => &[Field::Words(1), Field::Text, Field::Words(1), Field::Text],
+        1005 => &[Field::Words(1), Field::Text, Field::Text],
+        1006 => &[Field::Address, Field::List, Field::List],
+        1007 => &[Field::Address, Field::Address],
+        1008 => &[Field::Text, Field::Words(2)],
+        1009 => &[Field::Text, Field::Words(3)],
+        1010 => &[Field::Address, Field::Words(1)],
+        1011 => &[Field::Words(1)],
+        1012 => &[Field::List],
+        1013 => &[Field::Words(1), Field::Opaque],
+        1014 => &[
+            Field::Text,
+            Field::Mac,
+            Field::Words(2),
+            Field::Long,
+            Field::Words(3),
+        ],
+        1015 => &[
+            Field::Text,
+            Field::Mac,
+            Field::Words(5),
+            Field::Long,
+            Field::Words(1),
+        ],
+        // made by layouts/make: to here
+        _ => &[],
+    }
+}
 
 pub fn pass(c: Cursor, s: &[u8], format: u32, mode: Mode) -> Passed
     requires inside { Inside s.now c }
     requires no_aggregation { format ≡ 1016 → ⊥ }
     ensures { passed_out result nothing ≡ follow (opened (flows (mode_of mode) (give nothing)) format) s.now (place c) }
 {
-    let row = Row {
-        passed: Passed::Got(c),
-    };
-    match format {
-        // made by layouts/make from layouts/table: from here
-        1 => row.protocol(s).words(s, 2).opaque(s).passed,
-        2 => row.words(s, 1).six(s, mode).six(s, mode).words(s, 1).passed,
-        3 => row.words(s, 8).passed,
-        4 => row.words(s, 2).sixteen(s).sixteen(s).words(s, 4).passed,
-        1001 => row.words(s, 4).passed,
-        1002 => row.address(s).words(s, 2).passed,
-        1003 => row
-            .address(s)
-            .words(s, 3)
-            .segments(s)
-            .list(s)
-            .words(s, 1)
-            .passed,
-        1004 => row.words(s, 1).text(s).words(s, 1).text(s).passed,
-        1005 => row.words(s, 1).text(s).text(s).passed,
-        1006 => row.address(s).list(s).list(s).passed,
-        1007 => row.address(s).address(s).passed,
-        1008 => row.text(s).words(s, 2).passed,
-        1009 => row.text(s).words(s, 3).passed,
-        1010 => row.address(s).words(s, 1).passed,
-        1011 => row.words(s, 1).passed,
-        1012 => row.list(s).passed,
-        1013 => row.words(s, 1).opaque(s).passed,
-        1014 => row
-            .text(s)
-            .six(s, Mode::Memo)
-            .words(s, 2)
-            .long(s)
-            .words(s, 3)
-            .passed,
-        1015 => row
-            .text(s)
-            .six(s, Mode::Memo)
-            .words(s, 5)
-            .long(s)
-            .words(s, 1)
-            .passed,
-        // made by layouts/make: to here
-        _ => row.passed,
-    }
+    pass::pass(c, s, row(format, mode))
 }

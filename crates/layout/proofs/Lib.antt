@@ -1,3 +1,4 @@
 pub mod Laws
+pub mod Passing
 pub mod Protocols
 pub mod Records

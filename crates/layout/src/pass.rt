@@ -1,0 +1,69 @@
+// A row of a layout that is passed, field by field, with nothing kept of it: what the framing needs of a record.
+ghost use Rattle.std.specs.Prelude.{◌≡◌};
+ghost use Rattle.reading.specs.Script.{nothing};
+ghost use Rattle.reading.proofs.Fields.{fields_out};
+ghost use Rattle.xdr.specs.Shown.{Inside, place, passed_out};
+ghost use Rattle.layout.specs.Passing.{end_of, fields_of, row_of, passing};
+
+use crate::field::protocol;
+use crate::lists::{list, segments};
+use xdr::{Cursor, Passed, Read};
+
+// The fields that layouts are made of.
+#[derive(Clone, Copy)]
+pub enum Field {
+    Words(u32),
+    Long,
+    // A MAC address with its pad, and a bare one.
+    Mac,
+    Six,
+    Sixteen,
+    Protocol,
+    Address,
+    Opaque,
+    Text,
+    List,
+    Segments,
+}
+
+// The cursor behind what was read.
+fn behind<T: Copy>(read: Read<T>) -> Passed
+    ensures { result ≡ end_of read }
+{
+    let (_, end) = read?;
+    Ok(end)
+}
+
+impl Field {
+    #[tactic(auto, unfolding(reading::specs::Cursor::fixed, reading::specs::Cursor::read_item, reading::proofs::Fields::field_out, reading::proofs::Fields::fields_out))]
+    fn pass(self, c: Cursor, s: &[u8]) -> Passed
+        requires { Inside s.now c }
+        ensures { passed_out result nothing ≡ passing (fields_of self) s.now (place c) }
+    {
+        match self {
+            Field::Words(n) => c.read_words(s, n),
+            Field::Long => c.skip(s, 8),
+            Field::Mac => c.skip(s, 8),
+            Field::Six => c.skip(s, 6),
+            Field::Sixteen => c.skip(s, 16),
+            Field::Protocol => behind(protocol(c, s)),
+            Field::Address => behind(c.parse_address(s)),
+            Field::Opaque => behind(c.read_opaque(s)),
+            Field::Text => behind(c.read_string(s)),
+            Field::List => behind(list(c, s)),
+            Field::Segments => behind(segments(c, s)),
+        }
+    }
+}
+
+// Past the fields of a row, one behind another.
+pub fn pass(c: Cursor, s: &[u8], row: &[Field]) -> Passed
+    requires { Inside s.now c }
+    ensures { passed_out result nothing ≡ passing (row_of row.now) s.now (place c) }
+{
+    let mut end = c;
+    for field in row {
+        end = field.pass(end, s)?;
+    }
+    Ok(end)
+}
