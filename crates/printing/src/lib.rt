@@ -28,7 +28,7 @@ pub fn text(rt: &impl Print, s: &[u8]) -> io::Result<()> {
 }
 
 // A number behind its name.
-pub fn number(rt: &impl Print, name: &[u8], n: u64) -> io::Result<()> {
+pub fn number(rt: &impl Print, name: &[u8], n: impl fmt::Display + Drop) -> io::Result<()> {
     text(rt, name)?;
     rt.print(n)
 }

@@ -5,8 +5,7 @@ use xdr::{Cursor, Outcome};
 
 // A number with its sign, behind its name.
 pub fn integer(rt: &impl Print, name: &[u8], z: i32) -> io::Result<()> {
-    printing::text(rt, name)?;
-    rt.print(z)
+    printing::number(rt, name, z)
 }
 
 // Bytes in hexadecimal, and a dash where there are none.
