@@ -68,6 +68,7 @@ fn sample(rt: &impl Print, s: &[u8], d: &Words, format: u32) -> io::Result<()> {
     }
 }
 
+// Kinds and formats are the numbers of the store's words, as C has them; each stands here once, so an enum of them would be no plainer.
 fn descriptor(rt: &impl Print, s: &[u8], d: &Words) -> io::Result<()> {
     let x = fields::descriptor::descriptor(d);
     let format = x.format.0;

@@ -45,7 +45,7 @@ fn run(rt: &impl Print, s: &[u8], store: &mut [u32]) -> io::Result<()> {
     print::left(rt, answer, &*store)
 }
 
-// The call of this letter.
+// The call of this letter, where any that is not 'o' or 'f' is a run. An enum of the letters would be matched here alone.
 fn call(rt: &impl Print, letter: u8, s: &[u8], store: &mut [u32]) -> io::Result<()> {
     match letter {
         b'o' => one(rt, s, store),

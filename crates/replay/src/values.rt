@@ -9,6 +9,7 @@ pub fn outcome(rt: &impl Print, o: Outcome) -> io::Result<()> {
     print!(rt; "; {code},{at},{steps}")
 }
 
+// The callers name a value's width as the memo does, so there is a function for each.
 pub fn word(rt: &impl Print, w: u32) -> io::Result<()> {
     print!(rt; " {w}")
 }
