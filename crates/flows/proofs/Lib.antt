@@ -1,4 +1,2 @@
-pub mod Scanning
-pub mod Placing
 pub mod Ahead
-pub mod Cycles
+pub mod Scanning
