@@ -21,10 +21,9 @@ pub fn utf8_char(s: &[u8], at: usize) -> usize
     requires { at ≤ length s.now }
     ensures { result ≡ width (drop at s.now) }
 {
-    if s.len() <= at {
+    let Some(&a) = s.get(at) else {
         return 0;
-    }
-    let a = s[at];
+    };
     // UTF8-1
     if among(0x00, 0x7f, a) {
         return 1;
