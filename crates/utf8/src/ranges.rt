@@ -10,7 +10,8 @@ pub fn among(lo: u8, hi: u8, b: u8) -> bool
     (lo..=hi).contains(&b)
 }
 
-// The byte that stands i behind `at`; 0, which is no tail, where the bytes end. By `get` and `unwrap_or` short texts of three bytes a character took 1.07 of the time.
+// The byte that stands i behind `at`; 0, which is no tail, where the bytes end.
+// By `get` and `unwrap_or` short texts of three bytes a character took 1.07 of the time.
 pub fn behind(s: &[u8], at: usize, i: usize) -> u8
     requires { at < length s.now }
     ensures { result ≡ get_or s.now (at + i) 0 }
