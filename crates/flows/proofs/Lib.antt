@@ -1,2 +1,4 @@
 pub mod Ahead
+pub mod Cycles
+pub mod Placing
 pub mod Scanning
