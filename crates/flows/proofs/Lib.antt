@@ -1,4 +1,4 @@
-pub mod Scanning
-pub mod Placing
 pub mod Ahead
 pub mod Cycles
+pub mod Placing
+pub mod Scanning

@@ -7,8 +7,6 @@ use Rattle.reading.specs.Layout.{Mode, base as base_mode, opened, flows, flow}
 use Rattle.reading.specs.Answer.{from}
 use Rattle.reading.proofs.Counts.{counted}
 use Rattle.xdr.specs.declared.Cursor.{Cursor}
-use Rattle.xdr.specs.declared.Passed.{Passed}
-use Rattle.xdr.specs.declared.Passed.TheVariants as passed
 use Rattle.xdr.specs.Shown.{place}
 use Rattle.flows.specs.declared.scan_ahead.Ahead.{Ahead}
 use Rattle.store.specs.declared.Pen.{Pen}
@@ -16,14 +14,14 @@ use Rattle.flows.specs.declared.put.Flat.{Flat}
 use Rattle.layout.specs.Scanned.{Scan}
 use Rattle.store.specs.Written.{Ready, placed}
 
--- where it is passed, the payload of a record of format f is read so, and is no aggregation
-pub record Passes (s : List ℕ) (c : Cursor) (f : ℕ) (r : Passed) : Type 0 where
-  pub flat : {d : Cursor} → r ≡ passed.Got d → f ≡ 1016 → ⊥
-  pub is : {d : Cursor} → r ≡ passed.Got d → (mode : Mode) → got nothing (place d) ≡ follow (opened (flows mode (give nothing)) f) s (place c)
+-- the payload of a record of format f is read so far, and is no aggregation
+pub record Passes (s : List ℕ) (c : Cursor) (f : ℕ) (d : Cursor) : Type 0 where
+  pub flat : f ≡ 1016 → ⊥
+  pub is : (mode : Mode) → got nothing (place d) ≡ follow (opened (flows mode (give nothing)) f) s (place c)
 
--- where it is passed, a record of a sample is read so, on top of k descriptors
-pub record PassesRecord (s : List ℕ) (c : Cursor) (r : Passed) : Type 0 where
-  pub is : {d : Cursor} → r ≡ passed.Got d → (mode : Mode) (k : ℕ) → got (k + 1) (place d) ≡ counted k (follow (flow mode depth_limit depth_limit) s (place c))
+-- a record of a sample is read so far, on top of k descriptors
+pub record PassesRecord (s : List ℕ) (c : Cursor) (d : Cursor) : Type 0 where
+  pub is : (mode : Mode) (k : ℕ) → got (k + 1) (place d) ≡ counted k (follow (flow mode depth_limit depth_limit) s (place c))
 
 -- to read on from here is to read n records of a sample from c, on top of k descriptors
 pub record AheadOf (s : List ℕ) (c : Cursor) (n k : ℕ) (r : Ahead) : Type 0 where

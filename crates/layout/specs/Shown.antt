@@ -5,6 +5,7 @@ use Rattle.reading.specs.Cursor.{Out}
 use Rattle.reading.specs.Layout as reading
 use Rattle.reading.specs.Layout.{memo, base}
 use Rattle.reading.proofs.Counts.{Framing, framing}
+use Rattle.xdr.specs.declared.Cursor.{Cursor}
 use Rattle.xdr.specs.Shown.{Read, read_out, span}
 use Rattle.layout.specs.declared.field.Mode.{Mode}
 use Rattle.layout.specs.declared.field.Mode.TheVariants as a_mode
@@ -21,6 +22,10 @@ a_segment r = number r.kind ∷ part (span r.path) ∷ []
 
 abbrev pub a_frame : Frame → Framing
 a_frame r = framing r.format (span r.payload)
+
+-- the cursor at a frame's payload, with the steps up to behind the frame
+abbrev pub first_of : Frame → Cursor → Cursor
+first_of r behind = record { at = r.payload.start; steps = behind.steps }
 
 -- a count of descriptors, and the cursor behind them
 abbrev pub scanned_out : Read ℕ → Out ℕ

@@ -1,9 +1,9 @@
 // A frame: a format word and an opaque, as samples and records have it; and what a pass over frames answers.
-ghost use Rattle.std.specs.Prelude.{◌≡◌, ◌≤◌, length};
+ghost use Rattle.std.specs.Prelude.{◌≡◌, ◌+◌, ◌^◌, ◌≤◌, ◌<◌, length};
 ghost use Rattle.reading.specs.Sizes.{longest_input};
 ghost use Rattle.reading.proofs.Counts.{frame_at};
 ghost use Rattle.xdr.specs.Shown.{Inside, place, read_out};
-ghost use Rattle.layout.specs.Shown.{a_frame};
+ghost use Rattle.layout.specs.Shown.{a_frame, first_of};
 
 use load;
 use xdr::{Cursor, MAX_OPAQUE_SIZE, Read, Reason, Span};
@@ -19,6 +19,24 @@ pub struct Frame {
 pub type Scanned = Read<usize>;
 
 impl Frame {
+    // Where the payload ends, and its pad begins.
+    pub fn end(self) -> usize
+        requires { self.payload.start + self.payload.count < 2 ^ 64 }
+        ensures { result ≡ self.payload.start + self.payload.count }
+    {
+        self.payload.start + self.payload.count
+    }
+
+    // The cursor at the payload, with the steps up to behind the frame.
+    pub fn first(self, behind: Cursor) -> Cursor
+        ensures { result ≡ first_of self behind }
+    {
+        Cursor {
+            at: self.payload.start,
+            steps: behind.steps,
+        }
+    }
+
     // By one look at its two words and its end: where that is inside, the length is not over the limit, for no input is as long.
     #[tactic(auto, unfolding(reading::specs::Cursor::fixed, reading::specs::Cursor::read_item, reading::specs::Cursor::read_opaque, reading::proofs::Counts::frame_at))]
     pub fn parse(c: Cursor, s: &[u8]) -> Read<Frame>

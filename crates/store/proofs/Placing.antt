@@ -141,15 +141,6 @@ module _ (s l : List ℕ) (pen : Pen) (o : Out Found) (g : Ready s l pen o) wher
   pub pen_index : index pen < 2 ^ 32
   pen_index = omega (arith, g.few)
 
--- ---- a frame's own descriptor
-pub frame_put : (kind depth : ℕ) (s l : List ℕ) (at : ℕ) (pen : Pen) {n f p : ℕ} {l' : List ℕ} → n ≡ be4 s (at + 4) → f ≡ be4 s at → p ≡ padded n
-    → l' ≡ write l pen.word (row_of pen.parent (record { kind = kind; format = f; span = record { start = at + 8; count = n }; depth = depth; first = at })) → a_put (at + 8 + p) (pen.word + descriptor_words) l' ≡ framed_at kind depth s at pen l
-unfolding framed_at
-frame_put kind depth s l at pen {n} {f} {p} {l'} v u z q =
-    let x : at + 8 + p ≡ at + 8 + padded (be4 s (at + 4)) = ap (λ (m : ℕ). at + 8 + m) (z ∙ ap padded v) in
-    let y : l' ≡ write l pen.word (row_of pen.parent (frame_range kind depth s at)) = rw (v, u) at q in
-    λ h. record { at = x h; word = pen.word + descriptor_words; store = y h }
-
 -- ---- a frame: its format word, its opaque, and what that holds
 module _ (kind depth : ℕ) (body : ℕ → Script) (s l : List ℕ) (at : ℕ) (pen : Pen) (g : Ready s l pen (follow (framed kind depth body) s (from at))) where
   frame : FrameAt kind depth body s at

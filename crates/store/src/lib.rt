@@ -10,6 +10,16 @@ ghost use Rattle.store.specs.Written.{range_of, FramedHere, written, framed_at};
 use load;
 use numbers::DataFormat;
 
+// What a descriptor is of. The number is the descriptor's first word.
+#[derive(Clone, Copy, Debug, PartialEq, Eq)]
+pub enum Kind {
+    Datagram = 0,
+    Sample = 1,
+    FlowRecord = 2,
+    CounterRecord = 3,
+    Pdu = 4,
+}
+
 // Where descriptors go: the index of this part's first, the parent's index, and the word of this part where the next one begins.
 #[derive(Clone, Copy)]
 pub struct Pen {
@@ -25,7 +35,7 @@ pub struct Written {
     pub word: usize,
 }
 
-// A descriptor, word for word.
+// A descriptor, word for word. Its kind is a number, since a host may hand back any.
 #[derive(Clone, Copy)]
 pub struct Descriptor {
     pub kind: u32,
@@ -40,7 +50,7 @@ pub struct Descriptor {
 // The words of a descriptor in the store.
 pub const DESCRIPTOR_WORDS: usize = 7;
 
-// The index of the descriptor that begins at a word.
+// The index of the descriptor that begins at a word. What writes a record's PDUs has these two numbers, and no pen.
 pub fn index_at(base: u32, word: usize) -> u32
     requires { base + word / descriptor_words < 2 ^ 32 }
     ensures { result ≡ base + word / descriptor_words }
@@ -48,7 +58,7 @@ pub fn index_at(base: u32, word: usize) -> u32
     base + (word / DESCRIPTOR_WORDS) as u32
 }
 
-// The one place that stores.
+// The one place that stores, a store for each word: `copy_from_slice` of an array of them writes the array first, and asks whether it overlaps.
 pub fn put(store: &mut [u32], at: usize, d: Descriptor)
     requires { at + descriptor_words ≤ length store.old }
     ensures { store.new ≡ write store.old at (row_of d.parent (range_of d)) }
@@ -63,31 +73,29 @@ pub fn put(store: &mut [u32], at: usize, d: Descriptor)
 }
 
 // The descriptor of the frame at `at`; past the frame.
+#[tactic(auto, unfolding(crate::specs::Written::framed_at))]
 pub fn put_frame(s: &[u8], at: usize, kind: u32, depth: u32, store: &mut [u32], pen: Pen) -> Written
     requires { FramedHere s.now store.old at pen }
     ensures { written result store.new ≡ framed_at kind depth s.now at pen store.old }
 {
-    let format = load::be32(s, at);
     let length = load::be32(s, at + 4);
     let start = at + 8;
-    let count = length as usize;
-    let padded = load::padded(count);
     let word = pen.word;
     put(
         store,
         word,
         Descriptor {
-            kind: kind,
-            format: DataFormat(format),
+            kind,
+            format: DataFormat(load::be32(s, at)),
             start: start as u32,
-            length: length,
+            length,
             parent: pen.parent,
-            depth: depth,
+            depth,
             first: at as u32,
         },
     );
     Written {
-        at: start + padded,
+        at: start + load::padded(length as usize),
         word: word + DESCRIPTOR_WORDS,
     }
 }

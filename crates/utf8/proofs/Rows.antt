@@ -102,6 +102,7 @@ module _ (s : List ℕ) (at : ℕ) (h : at < length s) where
       let f : x3 ≡ rows_3 a b c (rows_4 a b c d) = by_threes a b c x4 ∙ ap (rows_3 a b c) (by_fours a b c d) in
       width_at s at h (e ∙ sym (ap (λ (y : ℕ). pick (utf8_1 a) 1 y) (k2 ∙ ap (λ (y : ℕ). pick (utf8_2 a b) 2 y) f)))
 
-pub width_rows : (s : List ℕ) (at : ℕ) {b c d : ℕ} → b ≡ get_or s (at + 1) 0 → c ≡ get_or s (at + 2) 0 → d ≡ get_or s (at + 3) 0
-    → {r : ℕ} → r ≡ by_rows (get_or s at 0) b c d → at < length s → r ≡ width (drop at s)
-width_rows s at p q o e h = by_bytes s at h (rw (p, q, o) at e)
+-- the same by what code has read: its first byte, which is there, and those behind it
+pub width_rows : (s : List ℕ) (at : ℕ) {a b c d : ℕ} → (at < length s) × ((x : ℕ) → a ≡ get_or s at x) → b ≡ get_or s (at + 1) 0 → c ≡ get_or s (at + 2) 0 → d ≡ get_or s (at + 3) 0
+    → {r : ℕ} → r ≡ by_rows a b c d → r ≡ width (drop at s)
+width_rows s at h p q o e = by_bytes s at h.0 (rw (h.1 0, p, q, o) at e)

@@ -16,15 +16,14 @@ pub fn tail(a: u8) -> bool
     among(0x80, 0xbf, a)
 }
 
-// How many bytes the UTF8-char at `at` has; 0 where none begins there.
+// How many bytes the UTF8-char at `at` has; 0 where none begins there. A number and no Option, since `utf8_char_settled` and docs/UTF8.md say it so.
 pub fn utf8_char(s: &[u8], at: usize) -> usize
     requires { at ≤ length s.now }
     ensures { result ≡ width (drop at s.now) }
 {
-    if s.len() <= at {
+    let Some(&a) = s.get(at) else {
         return 0;
-    }
-    let a = s[at];
+    };
     // UTF8-1
     if among(0x00, 0x7f, a) {
         return 1;

@@ -6,7 +6,7 @@ use Rattle.reading.specs.Script.{number, integer, octets, word, long, int, opaqu
 use Rattle.reading.specs.Cursor.{fixed, read_item, times, follow}
 use Rattle.reading.specs.Layout.{addr, any_word}
 use Rattle.reading.proofs.Fields.{field_out}
-use Rattle.xdr.specs.Shown.{a_part, accepted, an_address, behind, code_of, ended, ill_formed_of, passed_of, passed_out, place, read_out, refused}
+use Rattle.xdr.specs.Shown.{a_part, accepted, an_address, behind, code_of, ended, ill_formed_of, passed_of, passed_out, place, read_out, refused, resumed}
 use Rattle.xdr.proofs.Settles.{Settles, settled}
 use Rattle.xdr.proofs.Lossless.{address_read_lossless, block_lossless, int_lossless, part_read_lossless, passed_lossless, word_lossless}
 use Rattle.xdr.proofs as call
@@ -52,6 +52,9 @@ module _ (κs self : _) where
 
   pub accepted_settled : (r e : _) → call.Cursor.accepted.Reads.Learnt κs (self, tt) r e → r ≡ accepted self
   accepted_settled r e h = h
+
+  pub with_steps_settled : (inner r e : _) → call.Cursor.with_steps.Reads.Learnt κs (self, (inner, tt)) r e → r ≡ resumed self inner
+  with_steps_settled inner r e h = h
 
   pub past_settled : (n r e : _) → call.Cursor.past.Reads.Learnt κs (self, (n, tt)) r e → r ≡ behind n self
   past_settled n r e h = h

@@ -57,6 +57,10 @@ passed_of o = cond (eqb o.code 0) (Ok (record { at = o.at; steps = o.steps })) (
 abbrev pub behind : ℕ → Cursor → Cursor
 behind n c = record { at = c.at + n; steps = c.steps + 1 }
 
+-- here, with the steps of what was read inside of what ends here
+abbrev pub resumed : Cursor → Cursor → Cursor
+resumed c inner = record { at = c.at; steps = inner.steps }
+
 abbrev pub span : Span → script.Span
 span x = record { start = x.start; count = x.count }
 

@@ -2,7 +2,7 @@
 #![tactic(auto)]
 
 ghost use Rattle.std.specs.Prelude.{◌≡◌, ◌+◌, ◌^◌, ◌≤◌, ◌<◌};
-ghost use Rattle.xdr.specs.Shown.{accepted, behind, code_of, ended, ill_formed_of, passed_of, refused};
+ghost use Rattle.xdr.specs.Shown.{accepted, behind, code_of, ended, ill_formed_of, passed_of, refused, resumed};
 
 mod addresses;
 mod blocks;
@@ -108,6 +108,16 @@ impl Cursor {
             code: 0,
             at: self.at,
             steps: self.steps,
+        }
+    }
+
+    // The cursor, with the steps of what was read inside of what ends here.
+    pub fn with_steps(self, inner: Cursor) -> Cursor
+        ensures { result ≡ resumed self inner }
+    {
+        Cursor {
+            at: self.at,
+            steps: inner.steps,
         }
     }
 

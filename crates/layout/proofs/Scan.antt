@@ -1,0 +1,84 @@
+-- The first pass over frames: where it has come to, and scripts one after another. Assumes nothing.
+use Rattle.std.proofs.Common.{ℕ, zero, suc, ◌+◌, ◌-◌, ◌≡◌, ◌≤◌, ◌<◌, refl, sym, ap, ◌∙◌, List, length, take, arith, length-take-le}
+use native.Mathlib.Numerals.{sub-one}
+use Rattle.reading.specs.Sizes.{longest_input}
+use Rattle.reading.specs.Bytes.{padded}
+use Rattle.reading.specs.Script.{number, Found, nothing, word, Script}
+use Rattle.reading.specs.Cursor.{Place, Out, got, stop, read_item, times, follow}
+use Rattle.reading.specs.Answer.{size}
+use Rattle.reading.proofs.Items.{never, word_seen}
+use Rattle.reading.proofs.Counts.{counted, turn_got, turn_stop, turns_done, framing, frame_at}
+use Rattle.reading.proofs.Framed.{FramedAt, framing_lies}
+use Rattle.reading.proofs.Bounds.{Owes, owes}
+use Rattle.reading.proofs.Room.{Thrifty}
+use Rattle.xdr.specs.declared.Cursor.{Cursor}
+use Rattle.xdr.specs.Shown.{Inside, place, resumed}
+use Rattle.layout.specs.declared.frames.Frame.{Frame}
+use Rattle.layout.specs.Scanned.{Scan}
+use Rattle.layout.specs.Shown.{a_frame, first_of}
+
+pub scan_inside : {s : List ℕ} {c : Cursor} {k : ℕ} → Scan s c k → Inside s c
+scan_inside g = record { inside = g.inside; counted = g.counted }
+
+pub scan_short : {s : List ℕ} {c : Cursor} {k : ℕ} → Scan s c k → length s ≤ longest_input
+scan_short g = g.short
+
+-- ---- where a script ends that passes four bytes for each descriptor
+
+pub record Thrift (sc : Script) : Type 0 where
+  pub is : Thrifty (follow sc)
+
+module _ (sc : Script) (t : Thrift sc) (s : List ℕ) (c : Cursor) (k : ℕ) (g : Scan s c k) {d : Cursor} {j : ℕ} where
+  pub scan_on : got j (place d) ≡ counted k (follow sc s (place c)) → Scan s d j
+  unfolding counted Owes
+  scan_on e = go (follow sc s (place c)) refl e
+    where
+      go : (o : Out Found) → follow sc s (place c) ≡ o → got j (place d) ≡ counted k o → Scan s d j
+      go (got a q) f h =
+          let z : j ≡ k + size a.ranges = cc in
+          let y : place d ≡ q = cc in
+          let b = t.is s (place c) a q g.inside f in
+          let o = rw f at (owes sc s (place c) g.inside) in
+          let i : d.at ≡ q.at = ap (λ (p : Place). p.at) y in
+          let l : d.steps ≡ q.steps = ap (λ (p : Place). p.steps) y in
+          record { inside = omega (arith, o.1); counted = omega (arith, o.0, o.2, g.counted); few = omega (arith, g.few); short = g.short }
+      go (stop x a n) f h = never (sym h)
+
+-- ---- so many in a row: of n, those behind the first i are left
+module _ (sc : Script) (s : List ℕ) (c : Cursor) (k : ℕ) {t : Out ℕ} (n i : ℕ) (e : counted k (times (n - i) (follow sc) s (place c)) ≡ t) where
+  pub scan_done : n ≤ i → got k (place c) ≡ t
+  scan_done z = let y : n - i ≡ 0 = omega arith in turns_done (follow sc) s (place c) k ∙ (rw y at e)
+
+  pub scan_turn : i < n → {d : Cursor} {j : ℕ} → got j (place d) ≡ counted k (follow sc s (place c)) → counted j (times (n - (i + 1)) (follow sc) s (place d)) ≡ t
+  scan_turn z f = let y : n - i ≡ suc (n - (i + 1)) = omega arith in sym (turn_got (follow sc) s (place c) k (n - (i + 1)) f) ∙ (rw y at e)
+
+  pub scan_stop : i < n → {x at steps : ℕ} → stop x at steps ≡ counted k (follow sc s (place c)) → stop x at steps ≡ t
+  scan_stop z f = let y : n - i ≡ suc (n - (i + 1)) = omega arith in turn_stop (follow sc) s (place c) k (n - (i + 1)) f ∙ (rw y at e)
+
+-- ---- a word that counts what is held behind it
+module _ (s : List ℕ) (c : Cursor) (k : ℕ) (g : Scan s c k) {n : ℕ} {d : Cursor} (e : got (number n) (place d) ≡ read_item word s (place c)) where
+  seen : (c.at + 4 ≤ length s) × (d.at ≡ c.at + 4) × (d.steps ≡ c.steps + 1)
+  seen = let r = word_seen s (place c) e in (r.0, ap (λ (p : Place). p.at) r.2, ap (λ (p : Place). p.steps) r.2)
+
+  pub scan_word : Scan s d k
+  scan_word = let r = seen in record { inside = omega (arith, r.0, r.1); counted = omega (arith, r.1, r.2, g.counted); few = omega (arith, r.1, g.few); short = g.short }
+
+  pub scan_count : Scan s d (k + 1)
+  scan_count = let r = seen in record { inside = omega (arith, r.0, r.1); counted = omega (arith, r.1, r.2, g.counted); few = omega (arith, r.1, g.few); short = g.short }
+
+-- ---- a frame whose payload is gone into
+module _ (s : List ℕ) (c : Cursor) {r : Frame} {d : Cursor} (e : got (a_frame r) (place d) ≡ frame_at s (place c)) where
+  lies : FramedAt s (place c) (a_frame r).span (place d)
+  lies = framing_lies s (place c) e
+
+  pub frame_ends : r.payload.start + r.payload.count ≤ length s
+  frame_ends = let y = lies in omega (arith, y.end, y.fits)
+
+  pub frame_count : (k : ℕ) → Scan s c k → k + 1 ≤ length s
+  frame_count k g = let y = lies in omega (arith, y.start, y.end, y.fits, g.few)
+
+  pub frame_scan : (k : ℕ) → Scan s c k → Scan (take (r.payload.start + r.payload.count) s) (first_of r d) (k + 1)
+  frame_scan k g =
+      let y = lies in
+      let z = length-take-le (r.payload.start + r.payload.count) s frame_ends in
+      record { inside = omega arith; counted = omega (arith, y.start, y.steps, g.counted); few = omega (arith, y.start, g.few); short = omega (arith, g.short) }
