@@ -1,48 +1,84 @@
-"""In Rattle: the readers, with what they show and their proofs, and the arms of the framing's table."""
+"""In Rattle: the readers, with what they show, and the rows of the framing's table."""
 import re
 import textwrap
 
 MADE = 'Made by layouts/make from layouts/table.'
-LONGEST, WIDEST, BROADEST = 39, 100, 60  # lines of a function; columns that `rt fmt` leaves to a line, and to what is called with and to a chain of calls
-# Where what a reader may name comes from; and what its contracts may cite.
-USES = {'Address': 'xdr', 'Counted': 'layout::field', 'DataSource': 'numbers', 'DataSourceExpanded': 'crate::kinds', 'Interface': 'numbers',
-        'InterfaceExpanded': 'crate::kinds', 'Network': 'crate::parts', 'Route': 'crate::parts', 'Mode': 'layout::field', 'Outcome': 'xdr', 'Passed': 'xdr', 'Span': 'xdr'}
-CITES = {'std.specs.Prelude': '◌≡◌ [] ◌∷◌ ◌++◌ ◌+◌ ◌≤◌ length',
-         'reading.specs.Script': 'long opaque sixteen', 'reading.specs.Layout': 'addr bytes list mac memo plain protocol segments str words',
-         'reading.specs.Values': 'zeros', 'reading.specs.Answer': 'layout_of', 'reading.proofs.Widths': 'numbers',
-         'xdr.specs.Shown': 'Answers', 'layout.specs.Chain': 'Within mode_of', 'counters.specs.Sizes': 'sizes_of'}
+WIDEST, BROADEST, SHORTEST = 100, 60, 18  # columns that `rt fmt` leaves to a line, to what is called with or a chain of calls, and to a struct's fields
+# Where what a reader may name comes from.
+USES = {'Address': 'xdr', 'Cursor': 'xdr', 'DataSource': 'numbers', 'DataSourceExpanded': 'crate::kinds', 'Interface': 'numbers',
+        'InterfaceExpanded': 'crate::kinds', 'Mode': 'layout::field', 'Network': 'crate::parts', 'Read': 'xdr', 'Record': 'layout::record',
+        'Route': 'crate::parts', 'Span': 'xdr', 'field': 'layout', 'lists': 'layout'}
+# What the proofs of a file see into: the table that has its layouts, and what fields are read as.
+SEEN = ('#![tactic(auto, unfolding(reading::specs::Answer::layout_of, reading::specs::Layout::%s, reading::specs::Cursor::fixed, '
+        'reading::specs::Cursor::read_item, reading::proofs::Fields::field_out, reading::proofs::Fields::fields_out))]')
+READER = '''
+// Format %(format)d: %(what)s.
+#[repr(C)]
+#[derive(Clone, Copy, Default)]
+pub struct %(type)s {
+%(fields)s
+}
+
+impl Record for %(type)s {
+    ghost layout = { λ mode. layout_of mode %(kind)d %(format)d };
+
+    ghost values = { %(name)s };
+
+    fn zero() -> %(type)s {
+        %(type)s::default()
+    }
+
+    fn read(c: Cursor, s: &[u8], %(mode)s: Mode) -> Read<%(type)s> {
+%(read)s
+        Ok((fields, c))
+    }
+}
+'''
 
 
 class Step:
     """What is read by one call: a field, or words one behind another."""
 
     def __init__(self, fields, by=()):
-        shape, self.fields, self.words = fields[0].shape, fields, sum(len(f.shape.words) for f in fields)
-        part = fields[0].name in by  # it is read by a reader of parts.rt
-        self.row = self.words > 1 and not part  # its words are taken from an array, by an index
-        call, name = (by[0] + '::parse(%s, s)', by[0].lower()) if part else ('field::' + shape.call, shape.local)
-        self.call, self.name = ('field::words(%%s, s, %d)' % self.words, 'row') if self.row else (call, name)
-        self.gives = [] if self.row else [(f.name, f.name if part else shape.value) for f in fields]
-        self.passed, self.loaded = 'words(s, %d)' % self.words if self.words else shape.passed, 'words'
+        self.fields, self.shape, self.words = fields, fields[0].shape, sum(len(f.shape.words) for f in fields)
+        self.part = by[0] if fields[0].name in by else ''  # the reader of parts.rt that reads them
+        self.row = self.words > 1 and not self.part
+        self.call = '%s::read(c, s, mode)' % self.part if self.part else 'field::words::<%d>(c, s)' % self.words if self.row else self.shape.call
+        self.law = 'after_fields _' if self.part or self.row else self.shape.law
+        self.several = self.part or self.shape.several  # it may be more items than its layout says
+        self.passed = 'words(s, %d)' % self.words if self.words else self.shape.passed
 
-    def values(self):
-        """What each of its fields is where all was read."""
-        at = 0
-        for field in self.fields:
-            names = field.shape.words or ('',)
-            words = ['%s[%d]' % (self.loaded, at + i) if self.row else field.name for i in range(len(names))]
-            at += len(names)
-            one = '%s(%s)' % (field.shape.rust, words[0]) if names[0] else words[0]
-            yield field.name, (field.shape.rust, zip(names, words)) if len(names) > 1 else one
+    def bound(self, ordinal):
+        """What its line binds, and each of its fields by that: all names, or one for what has too many for a line."""
+        names = [name for field in self.fields for name in named(field)]
+        short = ', '.join(names)
+        if self.part and len(short) > SHORTEST:
+            bound, names = self.part.lower(), ['%s.%s' % (self.part.lower(), name) for name in names]
+        elif self.part:
+            bound = '%s { %s }' % (self.part, short)
+        elif not self.row:
+            bound = names[0]
+        elif len(self.line('[%s]' % short)) <= WIDEST:
+            bound = '[%s]' % short
+        else:
+            bound, names = ordinal, ['%s[%d]' % (ordinal, at) for at in range(self.words)]
+        left = iter(names)
+        return bound, [(f.name, around(f, [next(left) for _ in f.shape.words or ('',)])) for f in self.fields]
+
+    def line(self, bound):
+        return '        let (%s, c) = %s?;' % (bound, self.call)
 
 
-def steps_of(layout):
-    """The steps, and those that are rows. Of several rows each has a name of its own."""
-    steps = [Step(run, layout.by) for run in layout.runs(layout.by)]
-    rows = [step for step in steps if step.row]
-    for step, ordinal in zip(rows if len(rows) > 1 else [], ('first', 'second', 'third', 'fourth')):
-        step.name, step.loaded = ordinal, ordinal + '_words'
-    return steps, rows
+def named(field):
+    """The words of a field, or its value, by the names that they have in a reader."""
+    for word in field.shape.words or ('',):
+        yield field.name if word in ('', '0') else word if word.startswith(field.name) else '%s_%s' % (field.name, word)
+
+
+def around(field, words):
+    """The value of a field that is made of these words, or of this value."""
+    names = field.shape.words
+    return words[0] if names in ((), ('',)) else '%s(%s)' % (field.shape.rust, words[0]) if names == ('0',) else (field.shape.rust, list(zip(names, words)))
 
 
 def antt(name):
@@ -50,71 +86,81 @@ def antt(name):
 
 
 def literal(type, pairs, indent, before='', after=''):
-    """The lines of a struct's value; a value of several lines is a type and its own pairs."""
-    pad, pairs = ' ' * indent, list(pairs)
-    short = ', '.join('%s: %s' % pair for pair in pairs)
-    if len(short) <= 18:  # what `rt fmt` leaves on one line
+    """The lines of a struct's value, as `rt fmt` has them; a value of several lines is a type and its own pairs."""
+    pad, pairs = ' ' * indent, [pair[:1] if pair[0] == pair[1] else pair for pair in pairs]
+    short = ', '.join(': '.join(map(str, pair)) for pair in pairs)
+    if len(short) <= SHORTEST:
         return ['%s%s%s { %s }%s' % (pad, before, type, short, after)]
     lines = ['%s%s%s {' % (pad, before, type)]
-    for name, value in pairs:
-        lines += literal(*value, indent + 4, name + ': ', ',') if isinstance(value, tuple) else ['%s    %s: %s,' % (pad, name, value)]
+    for name, *value in pairs:
+        lines += literal(*value[0], indent + 4, name + ': ', ',') if value and isinstance(value[0], tuple) else ['%s    %s,' % (pad, ': '.join([name, *value]))]
     return lines + [pad + '}' + after]
 
 
-def load(layout):
-    """The lines of `load`: the fields of a fixed layout, each from its place."""
-    fields = [('outcome', 'r')] + [(f.name, 'load::be%d(s, %s)' % (8 * f.shape.size, at)) for f, at in zip(layout.fields, layout.offsets())]
-    return ['    fn load(r: Outcome, s: &[u8]) -> %s' % layout.type, '        requires { %d ≤ length s.now }' % layout.size,
-            '        ensures { (result.outcome ≡ r) × (%s result ≡ numbers (sizes_of %d) s.now 0) }' % (layout.name, layout.format),
-            '    {', *literal(layout.type, fields, 8), '    }', '']
-
-
-def fixed_lines(layout):
-    """The lines that read a fixed layout, and those for where all of it was read."""
-    got = ['                let at = row.at;', '                %s::load(d.accepted(), &s[at..])' % layout.type]
-    return ['        let row = data::read(p, s, %d);' % layout.format, '        let passed = row.passed;'], got
+def steps_of(layout):
+    """The steps, each with what it binds and its fields by that. Of several rows each has a name of its own."""
+    steps = [Step(run, layout.by) for run in layout.runs(layout.by)]
+    rows = [step for step in steps if step.row]
+    return [(step, *step.bound(('first', 'second', 'third', 'fourth')[rows.index(step)] if step in rows[1:] or rows[1:] and step.row else 'row')) for step in steps]
 
 
 def step_lines(layout):
-    """The same of any other layout, step by step."""
-    read, (steps, rows) = [], steps_of(layout)
-    for i, step in enumerate(steps):
-        read += ['        let %s = %s;' % (step.name, step.call % ('passed' if i else 'p')), '        let passed = %s.passed;' % step.name]
-        read += ['        let %s = %s.%s;' % (name, step.name, value) for name, value in step.gives]
-    got = [('outcome', 'd.accepted()'), *(pair for step in steps for pair in step.values())]
-    loads = ['                let %s = field::load_words(s, %s.at, %d);' % (step.loaded, step.name, step.words) for step in rows]
-    return read, loads + literal(layout.type, got, 16) if rows else literal(layout.type, got, 12, 'Passed::Got(d) => ', ',')
-
-
-def parse(layout, stop):
-    """The lines of `parse`, with these for a refusal."""
-    read, got = fixed_lines(layout) if layout.fixed else step_lines(layout)
-    got = got if 'Passed::Got' in got[0] else ['            Passed::Got(d) => {', *got, '            }']
-    mode, given = ('(mode_of mode)', ', mode: Mode') if layout.modes else ('memo', '')
-    answers = 'Answers (layout_of %s %d %d) s.now p result.outcome (%s result)' % (mode, layout.kind, layout.format, layout.name)
-    return ['    pub fn parse(p: Passed, s: &[u8]%s) -> %s' % (given, layout.type), '        requires { Within s.now p }',
-            '        ensures { %s }' % answers, '    {', *read, '        match passed {', *stop, *got, '        }', '    }']
+    """The lines that read a layout, step by step."""
+    steps = steps_of(layout)
+    return [step.line(bound) for step, bound, _ in steps] + literal(layout.type, [pair for _, _, pairs in steps for pair in pairs], 8, 'let fields = ', ';')
 
 
 def reader(layout):
-    """The lines of a layout's struct and reader; and whether the zeros of a refusal are a function, `none`, lest `parse` be too long."""
-    lines = ['', '// Format %d: %s.' % (layout.format, layout.what), '#[repr(C)]', '#[derive(Clone, Copy)]', 'pub struct %s {' % layout.type, '    pub outcome: Outcome,']
-    lines += ['    pub %s: %s,' % (f.name, f.shape.rust) for f in layout.fields] + ['}', '', 'impl %s {' % layout.type]
-    zeros = [('outcome', 'r')] + [(f.name, f.shape.zero) for f in layout.fields]
-    whole = parse(layout, literal(layout.type, zeros, 12, 'Passed::Stop(r) => ', ','))
-    if len(whole) <= LONGEST and not layout.fixed:
-        return lines + whole + ['}'], False
-    runs = ['words %d ++ ' % step.words if step.words else step.fields[0].shape.term + ' ∷ ' for step in map(Step, layout.runs())]
-    term = re.sub(r' \+\+ $', '', ''.join(runs)) if runs[-1].startswith('words') else ''.join(runs) + '[]'
-    lines += ['    fn none(r: Outcome) -> %s' % layout.type,
-              '        ensures { (result.outcome ≡ r) × (%s result ≡ zeros (%s)) }' % (layout.name, term), '    {', *literal(layout.type, zeros, 8), '    }', '']
-    lines += load(layout) if layout.fixed else []
-    return lines + parse(layout, ['            Passed::Stop(r) => %s::none(r),' % layout.type]) + ['}'], True
+    """The text of a layout's struct and reader."""
+    lines = step_lines(layout)
+    mode = 'mode' if re.search(r'\bmode\b', '\n'.join(lines)) else '_mode'
+    return READER % dict(vars(layout), fields='\n'.join('    pub %s: %s,' % (f.name, f.shape.rust) for f in layout.fields), mode=mode, read='\n'.join(lines))
+
+
+def read_answers(layout):
+    """Where a field of several items was read, that the cursor behind it is inside: what each call behind it requires."""
+    steps, called, sure, lines = steps_of(layout), {}, [], []
+    for step, bound, _ in steps:
+        call = re.search(r'(\w+)(?:::<\d+>)?\(', step.call)[1]
+        called[call] = called.get(call, 0) + 1
+        goal = call + '-requires' + '-%d' % called[call] * (called[call] > 1)
+        if sure:
+            lines += ['', 'pub %s : goal.%s' % (goal, goal), '%s c =' % goal, *sure, '    search rules']
+        if sure or step.several:
+            before = 'i%d' % len(sure) if sure else 'c.requires'
+            law, given = step.law.split()
+            sure.append('    let i%d = %s _ _ %s %s c.in_ok-%s.ensures in' % (len(sure) + 1, law, before, given, re.search(r'\b[a-z]\w*', bound)[0]))
+    return lines
+
+
+def zero_answers(layout):
+    """Of two blocks of sixteen bytes and more, that each is all zero by default."""
+    lines, last = [], len(layout.fields) - 1
+    for at, field in enumerate(layout.fields):
+        if field.shape.zeros is not None:
+            lines.append('    let e%d = all_zero c.default.ensures%s%s%s in' % (len(lines) + 1, '.1' * at, '.0' * (at < last), field.shape.zeros))
+    return ['', 'pub returns : goal.returns', 'unfolding layout_of flows', 'returns c mode =', *lines, '    search rules'] if len(lines) > 1 else []
+
+
+def answers(layout):
+    """What the proofs of a layout's functions have to be told, by the functions' names."""
+    cited = {'rules': 'std.proofs.Common', 'sixteen': 'reading.specs.Script', 'flows': 'reading.specs.Layout', 'layout_of': 'reading.specs.Answer',
+             'after_item': 'layout.proofs.Laws', 'after_block': 'layout.proofs.Laws', 'after_field': 'layout.proofs.Laws', 'after_fields': 'layout.proofs.Laws',
+             'all_zero': layout.crate + '.proofs.Zeros'}
+    for name, lines in ('read', read_answers(layout)), ('zero', zero_answers(layout)):
+        if lines:
+            path = '%s/%sRecord/%s' % (layout.file, layout.type, name)
+            modules = {}
+            for word in needed(cited, '\n'.join(lines)):
+                modules.setdefault(cited[word], []).append(word)
+            uses = ['use Rattle.%s.{%s}' % (module, ', '.join(words)) for module, words in modules.items()]
+            uses.append('use Rattle.%s.proofs.%s.Goals as goal' % (layout.crate, path.replace('/', '.')))
+            yield path + '/Answers.antt', '\n'.join(['-- ' + MADE, *uses, *lines]) + '\n'
 
 
 def needed(names, text):
     """Those of the names that the text has, each as a word."""
-    return [name for name in names if re.search(r'(?<![\w+-])%s(?![\w+-])' % re.escape(name.strip('◌')), text)]
+    return [name for name in names if re.search(r'(?<![\w.])%s(?!\w)' % re.escape(name), text)]
 
 
 def imports(paths):
@@ -123,21 +169,22 @@ def imports(paths):
     for path in sorted(paths, key=lambda path: [int(part) if part.isdigit() else part for part in re.split(r'(\d+)', path)]):
         module, _, name = path.rpartition('::')
         modules.setdefault(module or name, []).append(name if module else '')
-    for module, names in sorted(modules.items()):
+    lines = []
+    for module, names in modules.items():
         line = 'use %s;' % '::'.join(filter(None, (module, '{%s}' % ', '.join(names) if len(names) > 1 else names[0])))
         filled = textwrap.fill(', '.join(names) + ',', WIDEST, initial_indent='    ', subsequent_indent='    ')
-        yield line if len(line) <= WIDEST else 'use %s::{\n%s\n};' % (module, filled)
+        lines.append(line if len(line) <= WIDEST else 'use %s::{\n%s\n};' % (module, filled))
+    return sorted(lines, key=lambda line: line.rstrip(';'))
 
 
 def source(about, layouts):
     """A file of readers."""
-    body = '\n'.join(line for layout in layouts for line in reader(layout)[0])
-    contracts = '\n'.join(line for line in body.splitlines() if line.lstrip().startswith(('requires {', 'ensures {')))
-    cited = [(module, needed(names.split(), contracts)) for module, names in CITES.items()]
-    cited.append(('%s.specs.Shown' % layouts[0].crate, [one.name for one in layouts]))
-    uses = (['crate::data', 'load'] if layouts[0].fixed else ['layout::field']) + ['%s::%s' % (USES[name], name) for name in needed(USES, body)]
-    lines = ['// ' + MADE, '// ' + about, *('ghost use Rattle.%s.{%s};' % (module, ', '.join(names)) for module, names in cited if names)]
-    return '\n'.join([*lines, '', *imports(uses)]) + '\n' + body + '\n'
+    crate = layouts[0].crate
+    body = ''.join(reader(layout) for layout in layouts)
+    code = '\n'.join(line for line in body.splitlines() if not line.startswith('//'))
+    lines = ['// ' + MADE, '// ' + about, SEEN % {'flow_layouts': 'flows'}.get(crate, crate), '', 'ghost use Rattle.reading.specs.Answer.{layout_of};',
+             'ghost use Rattle.%s.specs.Shown.{%s};' % (crate, ', '.join(one.name for one in layouts)), '']
+    return '\n'.join([*lines, *imports('%s::%s' % (USES[name], name) for name in needed(USES, code))]) + '\n' + body
 
 
 def shown(layouts):
@@ -156,38 +203,6 @@ def goals(pairs):
         count[name] = count.get(name, 0) + 1
         lines.append('    (λ %s. %s)  -- %s%s' % ('c κs' if name.endswith('requires') else 'c', found, name, '-%d' % count[name] if count[name] > 1 else ''))
     return '\n'.join(lines) + '\n'
-
-
-def proof_text(crate, function, uses, unfolding, shown):
-    """The file that proves a function, with what it uses and unfolds, and what is shown."""
-    path, name = 'Rattle.%s.proofs.%s' % (crate, function), function.rpartition('.')[2] + '_spec'
-    lines = ['-- ' + MADE, *uses, 'use %s.Statement.{statement}' % path, 'use %s.Tie as tie' % path, '', 'pub %s : {M : Type 1} → statement M' % name]
-    return '\n'.join(lines) + '\n%s%s =\n    tie.close\n    (tie.spec\n%s    )\n' % (unfolding, name, goals(shown))
-
-
-def proofs(layout):
-    """The proofs of a layout's functions: a line for each thing that is to be shown, in the order of the code."""
-    if layout.fixed:
-        return fixed_proofs(layout)
-    (steps, rows), apart = steps_of(layout), reader(layout)[1]
-    shown = [('search steps', step.call.partition('(')[0].split('::')[1] + '-requires') for step in steps] + [('search steps', 'enum-known-passed')]
-    shown += [('search steps', 'none-requires')] * apart + [('search steps', 'enum-known-passed')] + [('search places', 'load-words-requires')] * len(rows)
-    shown += [('search steps', 'accepted-requires')] + [('search steps', 'array-read')] * sum(step.words for step in rows) + [('search rows', 'returns')] * 2
-    table, laws = (None, 'samples', 'flows')[layout.kind], 'steps, %srows' % ('places, ' if rows else '')
-    uses = ['use Rattle.reading.specs.Layout.{%s}' % table, 'use Rattle.reading.specs.Answer.{layout_of}', 'use Rattle.layout.proofs.Chain.{%s}' % laws]
-    return [('parse', proof_text(layout.crate, '%s.%s.parse' % (layout.file, layout.type), uses, 'unfolding layout_of %s\n' % table, shown))]
-
-
-def fixed_proofs(layout):
-    """Those of a fixed layout."""
-    of_both = ['use Rattle.reading.specs.Layout.{counters}', 'use Rattle.reading.specs.Answer.{layout_of}', 'use Rattle.counters.specs.Sizes.{sizes_of}']
-    uses = {'load': ['use mathlib.Core.Path.{refl}', *of_both[:2], 'use Rattle.xdr.proofs.Rows.{same_numbers}', of_both[2], 'use Rattle.counters.proofs.Reading.{reads}'],
-            'parse': [*of_both, 'use Rattle.counters.proofs.Reading.{fixed_read, reads}']}
-    names = 'read-requires enum-known-passed none-requires enum-known-passed accepted-requires sub-load part-load-start part-load-end load-requires returns'
-    loads, numbers = ['be%d-requires' % (8 * field.shape.size) for field in layout.fields], '(refl, search same_numbers depth 30)'
-    for name, shown, last in ('load', loads, numbers), ('parse', names.split(), 'search (fixed_read (sizes_of %d))' % layout.format):
-        pairs = [('search reads', one) for one in shown] + [(last, 'returns')]
-        yield name, proof_text('counters', '%s.%s.%s' % (layout.file, layout.type, name), uses[name], 'unfolding layout_of sizes_of counters\n', pairs)
 
 
 def arm(layout):

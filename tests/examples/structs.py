@@ -24,16 +24,17 @@ def literal(pairs):
     return 'record { %s }' % '; '.join(said)
 
 
-def outcome(end, steps):
-    return ('outcome', 'record { code = 0; at = %d; steps = %d }' % (end, steps))
+def reading(end, steps, pairs):
+    """What a field reading answers: how it ended, and the record."""
+    return 'record { outcome = record { code = 0; at = %d; steps = %d }; fields = %s }' % (end, steps, literal(pairs))
 
 
 def struct_of(body):
-    """The record that a field reading of this example answers."""
-    pairs = [outcome(START + len(body.data), len(body.items))]
+    """What a field reading of this example answers."""
+    pairs = []
     for (kind, field), value in zip(body.fields, body.values):
         pairs.append((field, 'record { 0 = %s }' % value.field() if kind in ('data_source', 'interface') else value.field()))
-    return literal(pairs)
+    return reading(START + len(body.data), len(body.items), pairs)
 
 
 def camel(name):
@@ -41,15 +42,15 @@ def camel(name):
 
 
 class Struct:
-    """A record of a crate's struct: its name here, its type and the module of that, what shows it, and what it is of."""
+    """A record of a crate's struct: its name here, its type and the module of that, what shows it, what it is of, and what of the type it is."""
 
-    def __init__(self, name, kind, module, result, about, text):
-        self.name, self.kind, self.module, self.result, self.about, self.text = name, kind, module, result, about, text
+    def __init__(self, name, kind, module, result, about, text, of=''):
+        self.name, self.kind, self.module, self.result, self.about, self.text, self.of = name, kind, module, result, about, text, of
 
 
 def read_struct(name, kind, module, shown, about, text):
     """One that a field reading answers."""
-    return Struct(name, kind, module, 'of_fields (answer_of %s.outcome (%s %s))' % (name, shown, name), about, text)
+    return Struct(name, kind, module, 'of_fields (answer_of %s.outcome (%s %s.fields))' % (name, shown, name), about, text, 'Reading ')
 
 
 def of_body(prefix, body):
@@ -66,7 +67,7 @@ def crate_text(crate, about, structs, tables, uses, more='', unfolded=''):
     for kind, module in dict.fromkeys((s.kind, s.module) for s in structs):
         text += 'use Rattle.%s.specs.declared.%s.%s.{%s}\n' % (crate, module, kind, kind)
     for s in structs:
-        text += '\n-- %s\n%s : %s\n%s = %s\n' % (s.about, s.name, s.kind, s.name, s.text)
+        text += '\n-- %s\n%s : %s%s\n%s = %s\n' % (s.about, s.name, s.of, s.kind, s.name, s.text)
     text += '\n-- what they are in the terms of the reading\npub shown : List Result\nunfolding %s\nshown =\n' % ' '.join(s.name for s in structs)
     text += '\n'.join('    %s%s' % ('∷ ' if i else '', s.result) for i, s in enumerate(structs)) + '\n    ∷ []\n'
     text += '\npub the_names_hold : shown ≡ map (λ (e : Example). e.result) %s\nunfolding shown %s\nthe_names_hold = refl\n' % (
@@ -75,7 +76,7 @@ def crate_text(crate, about, structs, tables, uses, more='', unfolded=''):
 
 
 def shown_uses(crate, names):
-    return 'use Rattle.xdr.specs.Shown.{answer_of}\nuse Rattle.%s.specs.Shown.{%s}\n' % (crate, ', '.join(names))
+    return 'use Rattle.xdr.specs.Shown.{answer_of}\nuse Rattle.layout.specs.declared.record.Reading.{Reading}\nuse Rattle.%s.specs.Shown.{%s}\n' % (crate, ', '.join(names))
 
 
 DESCRIPTOR = '''-- Made by tests/examples/make: a descriptor by the names of its fields, and its words in the store. Assumes nothing.
@@ -105,7 +106,7 @@ def store_text():
 
 def layout_text():
     segment = read_struct('segment', 'Segment', 'lists', 'a_segment', 'a segment of an AS path',
-                          literal([outcome(START + 16, 4), ('kind', '1'), ('path', Part((START + 8, 2)).field())]))
+                          reading(START + 16, 4, [('kind', '1'), ('path', Part((START + 8, 2)).field())]))
     return crate_text('layout', 'the segments of an AS path', [segment], ['segments'], shown_uses('layout', ['a_segment']))
 
 

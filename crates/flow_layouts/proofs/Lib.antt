@@ -1,1 +1,2 @@
 pub mod Formats
+mod Zeros

@@ -1,66 +1,63 @@
 // Fields that longer layouts read by one call: what 1003 ends with, and what 1014 and 1015 begin with.
+#![tactic(auto, unfolding(reading::specs::Cursor::fixed, reading::specs::Cursor::read_item, reading::proofs::Fields::field_out, reading::proofs::Fields::fields_out))]
+
 ghost use Rattle.std.specs.Prelude.{[], ◌∷◌};
-ghost use Rattle.reading.specs.Layout.{list, mac, segments, str, words};
-ghost use Rattle.layout.specs.Chain.{Within, Then};
-ghost use Rattle.flow_layouts.specs.Parts.{route, network};
+ghost use Rattle.reading.specs.Layout.{list as a_list, mac, segments as some_segments, str, words};
+ghost use Rattle.flow_layouts.specs.Parts.{network, route};
 
-use layout::field;
-use layout::field::{Counted, Mode};
-use xdr::{Passed, Span};
+use layout::field::Mode;
+use layout::record::Record;
+use layout::{field, lists};
+use xdr::{Cursor, Read, Span};
 
-#[derive(Clone, Copy)]
+#[derive(Clone, Copy, Default)]
 pub struct Route {
-    pub passed: Passed,
     pub dst_as_path: Span,
     pub communities: Span,
     pub local_pref: u32,
 }
 
-impl Route {
-    pub fn parse(p: Passed, s: &[u8]) -> Route
-        requires { Within s.now p }
-        ensures { Then (segments ∷ list ∷ words 1) s.now p result.passed (route result) }
-    {
-        let path = field::range(p, s, Counted::Segments);
-        let passed = path.passed;
-        let dst_as_path = path.span;
-        let list = field::range(passed, s, Counted::List);
-        let passed = list.passed;
-        let communities = list.span;
-        let word = field::word(passed, s);
-        let passed = word.passed;
-        Route {
-            passed: passed,
-            dst_as_path: dst_as_path,
-            communities: communities,
-            local_pref: word.value,
-        }
+impl Record for Route {
+    ghost layout = { λ _. some_segments ∷ a_list ∷ words 1 };
+
+    ghost values = { route };
+
+    fn zero() -> Route {
+        Route::default()
+    }
+
+    fn read(c: Cursor, s: &[u8], _mode: Mode) -> Read<Route> {
+        let (dst_as_path, c) = lists::segments(c, s)?;
+        let (communities, c) = lists::list(c, s)?;
+        let (local_pref, c) = c.read_u32(s)?;
+        let fields = Route {
+            dst_as_path,
+            communities,
+            local_pref,
+        };
+        Ok((fields, c))
     }
 }
 
 // A network and its station.
-#[derive(Clone, Copy)]
+#[derive(Clone, Copy, Default)]
 pub struct Network {
-    pub passed: Passed,
     pub ssid: Span,
     pub bssid: [u8; 6],
 }
 
-impl Network {
-    pub fn parse(p: Passed, s: &[u8]) -> Network
-        requires { Within s.now p }
-        ensures { Then (str ∷ mac ∷ []) s.now p result.passed (network result) }
-    {
-        let text = field::text(p, s);
-        let passed = text.passed;
-        let ssid = text.span;
-        let mac = field::six(passed, s, Mode::Memo);
-        let passed = mac.passed;
-        let bssid = mac.bytes;
-        Network {
-            passed: passed,
-            ssid: ssid,
-            bssid: bssid,
-        }
+impl Record for Network {
+    ghost layout = { λ _. str ∷ mac ∷ [] };
+
+    ghost values = { network };
+
+    fn zero() -> Network {
+        Network::default()
+    }
+
+    fn read(c: Cursor, s: &[u8], _mode: Mode) -> Read<Network> {
+        let (ssid, c) = c.read_string(s)?;
+        let (bssid, c) = field::six(c, s, Mode::Memo)?;
+        Ok((Network { ssid, bssid }, c))
     }
 }

@@ -1,10 +1,12 @@
 -- What the readers of fields and of lists answer in terms of the reading, with the facts that the code has there. Assumes nothing.
-use Rattle.std.proofs.Common.{ℕ, zero, suc, ◌+◌, ◌*◌, ◌-◌, ◌≡◌, ◌≤◌, ◌<◌, refl, sym, ap, ◌∙◌, List, [], ◌∷◌, length, map, get_or, arith, Ok, Err}
+use Rattle.std.proofs.Common.{ℕ, zero, suc, ◌+◌, ◌*◌, ◌-◌, ◌≡◌, ◌≤◌, ◌<◌, refl, sym, ap, ◌∙◌, List, [], ◌∷◌, length, map, take, drop, get_or, arith}
 use native.Mathlib.Numerals.{sub-one}
 use Rattle.reading.specs.Bytes.{be4}
-use Rattle.reading.specs.Script.{Value, number, Found, nothing, Item, Script}
-use Rattle.reading.specs.Cursor.{Place, Out, got, stop, Reader, then, read_item, times, follow}
+use Rattle.reading.specs.Script.{Width, octet_count, Value, number, octets, Found, nothing, Item, block, Script, give}
+use Rattle.reading.specs.Cursor.{Place, Out, got, stop, Reader, then, fixed, read_item, times, follow}
+use Rattle.reading.specs.Layout.{Field, fields}
 use Rattle.reading.proofs.Bounds.{Owes, owes_item, owes}
+use Rattle.reading.proofs.Fields.{field_out, fields_out, fields_then, sole_gives}
 use Rattle.reading.proofs.Words.{numbers_from, numbers}
 use Rattle.xdr.specs.declared.Cursor.{Cursor}
 use Rattle.xdr.specs.Shown.{Inside, place}
@@ -42,9 +44,20 @@ module _ (s : List ℕ) (c : Cursor) (i : Inside s c) where
   unfolding Owes
   after_item {d = d} x e = owed s c d i (rw (sym e) at (owes_item s (place c) x i.inside))
 
+  pub after_block : {v : Value} {d : Cursor} (w : Width) → got v (place d) ≡ fixed (octet_count w) (octets (take (octet_count w) (drop c.at s))) s (place c) → Inside s d
+  unfolding read_item
+  after_block w e = after_item (block w) e
+
   pub after_script : {a : Found} {d : Cursor} (x : Script) → got a (place d) ≡ follow x s (place c) → Inside s d
   unfolding Owes
   after_script {d = d} x e = owed s c d i (rw (sym e) at (owes x s (place c) i.inside))
+
+  pub after_fields : {vs : List Value} {d : Cursor} (l : List Field) → got vs (place d) ≡ fields_out l s (place c) → Inside s d
+  unfolding follow
+  after_fields l e = after_script {a = nothing} (fields l (λ vs. give nothing)) (sym (fields_then l (λ vs. give nothing) s (place c) ∙ rw (← e)))
+
+  pub after_field : {v : Value} {d : Cursor} (f : Field) → got v (place d) ≡ field_out f s (place c) → Inside s d
+  after_field f e = after_fields (f ∷ []) (sym (sole_gives f s (place c) (sym e)))
 
 -- ---- scripts one after another: what is left of them ends as they all do
 

@@ -1,3 +1,4 @@
 pub mod Shown
 pub mod Scanned
 pub mod Passing
+pub mod Examples
