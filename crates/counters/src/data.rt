@@ -1,79 +1,106 @@
 // What a counter record's payload holds: the table of docs/RULES.md, R3.7, row by row.
-ghost use Rattle.std.specs.Prelude.{◌≡◌, length};
-ghost use Rattle.reading.specs.Layout.{widths, total};
-ghost use Rattle.reading.proofs.Widths.{numbers};
-ghost use Rattle.xdr.specs.Shown.{Inside};
-ghost use Rattle.layout.specs.Chain.{Within, Then};
-ghost use Rattle.counters.specs.Sizes.{sizes_of, HasBytes};
+ghost use Rattle.std.specs.Prelude.{◌≡◌};
+ghost use Rattle.reading.specs.Script.{nothing};
+ghost use Rattle.reading.specs.Cursor.{follow};
+ghost use Rattle.reading.specs.Layout.{size_of, total, widths, opened, fixed_rows, counters};
+ghost use Rattle.xdr.specs.Shown.{Inside, place, passed_out};
+ghost use Rattle.layout.specs.Passing.{passing};
+ghost use Rattle.counters.specs.Sizes.{size, sizes, sizes_of};
 
-use crate::widths;
 use xdr::{Cursor, Passed};
 
-// The bytes of a layout, and its items.
+// The width of a field: a word's, or a u64's.
 #[derive(Clone, Copy)]
-pub struct Extent(pub usize, pub usize);
+pub enum Width {
+    U32,
+    U64,
+}
 
-// A layout that was passed, by where it begins.
+use Width::{U32, U64};
+
+// A layout: all its bytes, and the widths of its fields.
 #[derive(Clone, Copy)]
-pub struct FixedAt {
-    pub passed: Passed,
-    pub at: usize,
+pub struct Extent {
+    pub bytes: usize,
+    pub widths: &'static [Width],
 }
 
-// Those of a format, and none where it stays raw.
-pub fn fixed(format: u32) -> Extent
-    ensures bytes { result.0 ≡ total (sizes_of format) }
-    ensures items { result.1 ≡ length (sizes_of format) }
-{
-    match format {
-        // made by layouts/make from layouts/table: from here
-        1 => Extent(88, 19),
-        2 => Extent(52, 13),
-        3 => Extent(72, 18),
-        4 => Extent(80, 14),
-        5 => Extent(28, 6),
-        1001 => Extent(28, 5),
-        // made by layouts/make: to here
-        _ => Extent(0, 0),
-    }
-}
-
-// All of it by one comparison.
-fn pass(c: Cursor, s: &[u8], format: u32) -> Passed
-    requires { Inside s.now c }
-    ensures then { Then (widths (sizes_of format)) s.now (Passed.Got c) result (numbers (sizes_of format) s.now c.at) }
-    ensures has_bytes { HasBytes (total (sizes_of format)) s.now result c.at }
-{
-    let at = c.at;
-    let steps = c.steps;
-    let row = fixed(format);
-    if s.len() - at < row.0 {
-        // Lent anew, so that its two words go to the stack only where there is a call.
-        return Passed::Stop(widths::cut(c, &*s, format));
-    }
-    Passed::Got(Cursor {
-        at: at + row.0,
-        steps: steps + row.1,
-    })
-}
-
-// The same behind what was read before.
-pub fn read(p: Passed, s: &[u8], format: u32) -> FixedAt
-    requires { Within s.now p }
-    ensures then { Then (widths (sizes_of format)) s.now p result.passed (numbers (sizes_of format) s.now result.at) }
-    ensures has_bytes { HasBytes (total (sizes_of format)) s.now result.passed result.at }
-{
-    match p {
-        Passed::Stop(r) => FixedAt {
-            passed: Passed::Stop(r),
-            at: 0,
-        },
-        Passed::Got(c) => {
-            let at = c.at;
-            FixedAt {
-                passed: pass(c, s, format),
-                at: at,
-            }
+impl Width {
+    fn octets(self) -> usize
+        ensures { result ≡ size_of (size self) }
+    {
+        match self {
+            U32 => 4,
+            U64 => 8,
         }
     }
+}
+
+// That of a format, and an empty one where it stays raw.
+#[tactic(auto, unfolding(crate::specs::Sizes::sizes_of, reading::specs::Layout::counters))]
+pub fn fixed(format: u32) -> Extent
+    ensures bytes { result.bytes ≡ total (sizes_of format) }
+    ensures fields { sizes result.widths.now ≡ sizes_of format }
+{
+    let (bytes, widths) = match format {
+        // made by layouts/make from layouts/table: from here
+        1 => (
+            88,
+            &[
+                U32, U32, U64, U32, U32, U64, U32, U32, U32, U32, U32, U32, U64, U32, U32, U32,
+                U32, U32, U32,
+            ][..],
+        ),
+        2 => (
+            52,
+            &[
+                U32, U32, U32, U32, U32, U32, U32, U32, U32, U32, U32, U32, U32,
+            ][..],
+        ),
+        3 => (
+            72,
+            &[
+                U32, U32, U32, U32, U32, U32, U32, U32, U32, U32, U32, U32, U32, U32, U32, U32,
+                U32, U32,
+            ][..],
+        ),
+        4 => (
+            80,
+            &[
+                U32, U64, U32, U64, U32, U32, U32, U32, U32, U64, U32, U64, U64, U64,
+            ][..],
+        ),
+        5 => (28, &[U32, U64, U32, U32, U32, U32][..]),
+        1001 => (28, &[U32, U32, U32, U64, U64][..]),
+        // made by layouts/make: to here
+        _ => (0, &[][..]),
+    };
+    Extent { bytes, widths }
+}
+
+// Item by item, up to the first that is not there.
+fn by_items(c: Cursor, s: &[u8], row: &[Width]) -> Passed
+    requires { Inside s.now c }
+    ensures { passed_out result nothing ≡ passing (widths (sizes row.now)) s.now (place c) }
+{
+    let mut end = c;
+    for width in row {
+        end = end.skip(s, width.octets())?;
+    }
+    Ok(end)
+}
+
+// The fields of a format, by one comparison where they are all there.
+pub fn pass(c: Cursor, s: &[u8], format: u32) -> Passed
+    requires { Inside s.now c }
+    ensures { passed_out result nothing ≡ passing (widths (sizes_of format)) s.now (place c) }
+{
+    let row = fixed(format);
+    if s.len() - c.at < row.bytes {
+        return by_items(c, s, row.widths);
+    }
+    Ok(Cursor {
+        at: c.at + row.bytes,
+        steps: c.steps + row.widths.len(),
+    })
 }
