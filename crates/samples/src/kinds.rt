@@ -11,6 +11,7 @@ pub enum SampleKind {
 }
 
 // Format 1 is asked for first, since most samples are of it; and by comparisons, so that the compiler makes no table of jumps.
+#[tactic(auto, unfolding(reading::specs::Layout::opened, reading::specs::Layout::samples))]
 pub fn kind_of(format: u32) -> SampleKind
     ensures { IsKind result format }
 {
@@ -33,7 +34,7 @@ pub fn kind_of(format: u32) -> SampleKind
 
 // A source whose type and index have a word each.
 #[repr(C)]
-#[derive(Clone, Copy)]
+#[derive(Clone, Copy, Default)]
 pub struct DataSourceExpanded {
     pub source_id_type: u32,
     pub source_id_index: u32,
@@ -41,7 +42,7 @@ pub struct DataSourceExpanded {
 
 // An interface whose format and value have a word each.
 #[repr(C)]
-#[derive(Clone, Copy)]
+#[derive(Clone, Copy, Default)]
 pub struct InterfaceExpanded {
     pub format: u32,
     pub value: u32,
