@@ -14,7 +14,7 @@ use Rattle.reading.proofs.Utf8.{plain, width}
 use Rattle.reading.proofs.Utf8Longest.{ends}
 use Rattle.strings.specs.Fits.{all_fit}
 use Rattle.strings.proofs.Bytes.{bytes_passed}
-use Rattle.utf8.proofs.Places.{plain_room, run_room, run_on, sequence_room}
+use Rattle.utf8.proofs.Places.{plain_room, run_room, run_on, sequence_room, all_passed, sequence_passed, none_there}
 use Rattle.strings.specs.Skips.{LastBegins, Skips}
 
 module _ {s : List ℕ} {low high r : ℕ} (h : low ≤ r) (l : r < high) where
@@ -66,3 +66,8 @@ module _ (s : List ℕ) (at r : ℕ) (g : Skips s at r) where
 
     pub walk_less : at < length s → (n ≡ 0 → ⊥) → length s - (r + n) < length s - at
     walk_less h z = omega (arith, char_room, g.from)
+
+-- what the loops over windows and over characters rest on
+pub ruleset windows = (same_place, no_tail, window_turn)
+
+pub ruleset walking = (all_passed, sequence_passed, none_there, skip_room, skip_same, char_room, char_fits, walk_less)
