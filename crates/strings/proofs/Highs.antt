@@ -114,9 +114,6 @@ module _ (s : List ℕ) (k : ℕ) (h : k ≤ length s) (l : length s ≤ k + k) 
       go true f = sym (le-leb (length s) (plain s) (omega (arith, reach, leb-true k (plain (drop (length s - k) s)) (sym f))))
       go false f = sym (lt-leb (length s) (plain s) (omega (arith, reach, leb-false k (plain (drop (length s - k) s)) (sym f))))
 
-  pub first_other : x ≡ false → false ≡ leb (length s) (plain s)
-  first_other t = sym (lt-leb (length s) (plain s) (omega (arith, leb-false k (plain (drop 0 s)) (sym e ∙ t))))
-
 -- a block as a slice, and as bytes at a place
 plain_take : (n : ℕ) (t : List ℕ) → n ≤ length t → leb n (plain (take n t)) ≡ leb n (plain t)
 unfolding plain

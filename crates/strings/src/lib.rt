@@ -15,6 +15,7 @@ pub fn well_formed(s: &[u8]) -> usize
     ensures { result ≡ well_formed_of s.now }
 {
     let mut at = skip::short(s);
+    // no range and no iterator: each step is as long as what was passed
     while at < s.len() {
         at = skip::past(s, at);
         let n = utf8::utf8_char(s, at);
