@@ -15,7 +15,7 @@ fn eight(bytes: &[u8; 8]) -> bool
     u64::from_le_bytes(*bytes) & 0x8080808080808080 == 0
 }
 
-// Four, likewise. `u32` and `u64` share no trait with `from_le_bytes`, and `each` in place of both takes strings of 4 to 16 bytes a sixth longer.
+// Four, likewise: `u32` and `u64` share no trait with `from_le_bytes`, and `each` in place of both takes a sixth more instructions on strings of 4 to 16 bytes.
 fn four(bytes: &[u8; 4]) -> bool
     ensures { result ≡ leb 4 (plain bytes.now) }
 {
@@ -44,7 +44,7 @@ fn block<const N: usize>(s: &[u8], at: usize) -> bool
     each(bytes)
 }
 
-// Past the blocks of N UTF8-1 at `at`. A loop, since `chunks_exact` with `take_while` counts the blocks beside the place: short strings take a sixth longer.
+// Past the blocks of N UTF8-1 at `at`. A loop: `chunks_exact` and `take_while` take a tenth more instructions on strings of 17 to 200 bytes.
 fn past_blocks<const N: usize>(s: &[u8], at: usize) -> usize
     requires at_in_bounds { at ≤ length s.now }
     requires n_nonzero { 0 < N }
