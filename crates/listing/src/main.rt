@@ -2,8 +2,6 @@
 #![tactic(auto)]
 
 use datagram::decode::decode;
-use layout::field::Mode;
-use listing_lines::asked::{Asked, arguments};
 use std::io;
 use store::DESCRIPTOR_WORDS;
 
@@ -12,21 +10,12 @@ const MOST: usize = 8192;
 
 const STORE_WORDS: usize = MOST / 4 * DESCRIPTOR_WORDS;
 
-fn list(rt: &(impl Input + Print), mode: Mode) -> io::Result<()> {
-    let mut buffer = [0u8; MOST + 1];
-    let n = printing::input::read_full(rt, &mut buffer)?;
-    if MOST < n {
-        return printing::text(rt, b"input=toolong\n");
-    }
-    let mut store = [0u32; STORE_WORDS];
-    let decoded = decode(&buffer[..n], &mut store, mode);
-    let answer = decoded.answer;
-    listing_lines::list(rt, answer, &store)
-}
-
 fn main(rt: HostRuntime) -> io::Result<()> {
-    match arguments(&rt)? {
-        Asked::In(mode) => list(&rt, mode),
-        Asked::Unknown => Ok(()),
-    }
+    let mut buffer = [0u8; MOST + 1];
+    let Some((mode, s)) = listing_lines::given(&rt, &mut buffer)? else {
+        return Ok(());
+    };
+    let mut store = [0u32; STORE_WORDS];
+    let decoded = decode(s, &mut store, mode);
+    listing_lines::list(&rt, decoded.answer, &store)
 }

@@ -1,58 +1,60 @@
 // The lines of the listing (docs/RULES.md, 12).
 #![tactic(auto)]
 
-ghost use Rattle.std.specs.Prelude.{◌+◌, ◌*◌, ◌≤◌, ◌≡◌, length};
+ghost use Rattle.std.specs.Prelude.{◌*◌, ◌≤◌, ◌<◌, ◌≡◌, length, IfOk, IfSome};
 ghost use Rattle.reading.specs.Sizes.{descriptor_words};
 
 use datagram::decode::Answer;
+use layout::field::Mode;
+use printing::input::read_full;
+use std::env::Env;
 use std::io;
 use store::DESCRIPTOR_WORDS;
 
 pub mod asked;
 
-fn word(rt: &impl Print, name: &[u8], w: u32) -> io::Result<()> {
-    printing::number(rt, name, w as u64)
-}
-
-// The descriptor whose first word is at `at`.
-fn descriptor(rt: &impl Print, store: &[u32], at: usize) -> io::Result<()>
-    requires { at + descriptor_words ≤ length store.now }
+// What a listing program is given: the mode that is asked for and the bytes of standard input, which are fewer than the buffer has.
+// None where a line has told what is wrong.
+pub fn given<'a>(
+    rt: &(impl Env + Input + Print),
+    buffer: &'a mut [u8],
+) -> io::Result<Option<(Mode, &'a [u8])>>
+    ensures { IfOk result (λ given. IfSome given (λ x. length x.1.now < length buffer.old)) }
 {
-    word(rt, b"kind=", store[at])?;
-    word(rt, b" format=", store[at + 1])?;
-    word(rt, b" start=", store[at + 2])?;
-    word(rt, b" length=", store[at + 3])?;
-    word(rt, b" parent=", store[at + 4])?;
-    word(rt, b" depth=", store[at + 5])?;
-    word(rt, b" first=", store[at + 6])?;
-    printing::text(rt, b"\n")
-}
-
-// The first n descriptors.
-fn descriptors(rt: &impl Print, store: &[u32], n: usize) -> io::Result<()>
-    requires { descriptor_words * n ≤ length store.now }
-{
-    let mut i = 0;
-    while i < n {
-        descriptor(rt, store, DESCRIPTOR_WORDS * i)?;
-        i = i + 1;
+    let Some(mode) = asked::arguments(rt)? else {
+        return Ok(None);
+    };
+    let n = read_full(rt, &mut *buffer)?;
+    if n == buffer.len() {
+        println!(rt; "input=toolong")?;
+        return Ok(None);
     }
-    Ok(())
+    Ok(Some((mode, &buffer[..n])))
+}
+
+fn descriptor(rt: &impl Print, words: &[u32; DESCRIPTOR_WORDS]) -> io::Result<()> {
+    let [kind, format, start, length, parent, depth, first] = *words;
+    println!(rt;
+        "kind={kind} format={format} start={start} length={length} parent={parent} depth={depth} first={first}"
+    )
 }
 
 // An answer, and the descriptors where there are any.
 pub fn list(rt: &impl Print, a: Answer, store: &[u32]) -> io::Result<()>
     requires { a.code ≡ 0 → descriptor_words * a.needed ≤ length store.now }
 {
-    let code = a.code;
-    let n = a.needed;
-    word(rt, b"code=", code)?;
-    printing::number(rt, b" at=", a.at as u64)?;
-    printing::number(rt, b" steps=", a.steps as u64)?;
-    printing::number(rt, b" descriptors=", n as u64)?;
-    printing::text(rt, b"\n")?;
+    let Answer {
+        code,
+        at,
+        steps,
+        needed,
+    } = a;
+    println!(rt; "code={code} at={at} steps={steps} descriptors={needed}")?;
     if code == 0 {
-        descriptors(rt, store, n)?;
+        let (descriptors, _) = store.as_chunks::<DESCRIPTOR_WORDS>();
+        for words in &descriptors[..needed] {
+            descriptor(rt, words)?;
+        }
     }
     Ok(())
 }

@@ -5,8 +5,6 @@
 // starts, and how many bytes follow; then those bytes.
 #![tactic(auto)]
 
-ghost use Rattle.std.specs.Prelude.{◌+◌, ◌≤◌, ◌<◌, length, IfOk};
-
 use std::io;
 
 mod items;
@@ -15,32 +13,19 @@ mod print;
 // The bytes of input that are read; any behind them are not.
 const LARGEST: usize = 65536;
 
-// One vector, which begins at `at`: where the next one begins, or the write that failed.
-fn vector(rt: &impl Print, s: &[u8], at: usize) -> io::Result<usize>
-    requires { at + 4 ≤ length s.now }
-    ensures { IfOk result (λ next. (at < next) × (next ≤ length s.now)) }
-{
-    let letter = s[at];
-    let count = s[at + 1];
-    let start = print::octet(s[at + 2]);
-    let size = print::octet(s[at + 3]);
-    let from = at + 4;
-    if s.len() - from < size {
-        printing::text(rt, b"input=cut\n")?;
-        return Ok(s.len());
-    }
-    let end = from + size;
-    items::item(rt, letter, count, start, &s[from..end])?;
-    Ok(end)
-}
-
+// The vectors one behind another, of which the last may be cut.
 fn vectors(rt: &impl Print, s: &[u8]) -> io::Result<()> {
-    let mut at = 0;
-    while 4 <= s.len() - at {
-        at = vector(rt, s, at)?;
+    let mut rest = s;
+    while let Some((head, behind)) = rest.split_first_chunk::<4>() {
+        let [letter, count, start, size] = *head;
+        let Some((bytes, next)) = behind.split_at_checked(usize::from(size)) else {
+            break;
+        };
+        items::item(rt, letter, count, usize::from(start), bytes)?;
+        rest = next;
     }
-    if at < s.len() {
-        printing::text(rt, b"input=cut\n")?;
+    if !rest.is_empty() {
+        println!(rt; "input=cut")?;
     }
     Ok(())
 }

@@ -1,12 +1,11 @@
 // The fields of each descriptor that a call left, by the field reading of its kind and format; those that stay raw, and PDUs, have none.
-ghost use Rattle.std.specs.Prelude.{◌+◌, ◌*◌, ◌≤◌, ◌≡◌, length};
+ghost use Rattle.std.specs.Prelude.{◌*◌, ◌≤◌, ◌≡◌, length};
 ghost use Rattle.reading.specs.Sizes.{descriptor_words};
 
-use crate::{heads, polled, records};
+use crate::{heads, polled, print, records};
 use datagram::decode::Answer;
 use fields::descriptor::Words;
 use std::io;
-use store::DESCRIPTOR_WORDS;
 
 fn wireless(rt: &impl Print, s: &[u8], d: &Words, format: u32) -> io::Result<()> {
     match format {
@@ -69,11 +68,11 @@ fn sample(rt: &impl Print, s: &[u8], d: &Words, format: u32) -> io::Result<()> {
     }
 }
 
+// Kinds and formats are the numbers of the store's words, as C has them; each stands here once, so an enum of them would be no plainer.
 fn descriptor(rt: &impl Print, s: &[u8], d: &Words) -> io::Result<()> {
     let x = fields::descriptor::descriptor(d);
-    let kind = x.kind;
     let format = x.format.0;
-    match kind {
+    match x.kind {
         0 => heads::header(rt, s, d),
         1 => sample(rt, s, d, format),
         2 => flow_record(rt, s, d, format),
@@ -82,49 +81,12 @@ fn descriptor(rt: &impl Print, s: &[u8], d: &Words) -> io::Result<()> {
     }
 }
 
-// The words of the descriptor whose first one is at `at`.
-fn words_at(store: &[u32], at: usize) -> Words
-    requires { at + descriptor_words ≤ length store.now }
-{
-    let mut d = [0; DESCRIPTOR_WORDS];
-    let mut i = 0;
-    while i < DESCRIPTOR_WORDS {
-        d[i] = store[at + i];
-        i += 1;
-    }
-    d
-}
-
-// The first n descriptors.
-fn descriptors(rt: &impl Print, s: &[u8], store: &[u32], n: usize) -> io::Result<()>
-    requires { descriptor_words * n ≤ length store.now }
-{
-    let mut i = 0;
-    while i < n {
-        let d = words_at(store, DESCRIPTOR_WORDS * i);
-        descriptor(rt, s, &d)?;
-        i += 1;
-    }
-    Ok(())
-}
-
-// The end of a line: the fields of the first n descriptors.
-fn line(rt: &impl Print, s: &[u8], store: &[u32], n: usize) -> io::Result<()>
-    requires { descriptor_words * n ≤ length store.now }
-{
-    descriptors(rt, s, store, n)?;
-    printing::text(rt, b"\n")
-}
-
-// The descriptors that a call leaves: there are some where the code is 0.
+// The end of a line: the fields of the descriptors that a call leaves.
 pub fn left(rt: &impl Print, s: &[u8], a: Answer, store: &[u32]) -> io::Result<()>
     requires { a.code ≡ 0 → descriptor_words * a.needed ≤ length store.now }
 {
-    let code = a.code;
-    let n = a.needed;
-    if code == 0 {
-        line(rt, s, store, n)
-    } else {
-        line(rt, s, store, 0)
+    for words in print::descriptors(a, store) {
+        descriptor(rt, s, words)?;
     }
+    println!(rt; "")
 }

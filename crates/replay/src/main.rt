@@ -5,11 +5,10 @@
 // them, how many words of store are lent, and how many bytes follow, two bytes each; then those bytes.
 #![tactic(auto)]
 
-ghost use Rattle.std.specs.Prelude.{◌≤◌, ◌<◌, ◌≡◌, length};
-
 use datagram::decode::decode;
 use datagram::run::decode_run;
 use layout::field::Mode;
+use printing::input::read_full;
 use std::io;
 
 mod each;
@@ -22,98 +21,63 @@ mod values;
 // The room for a case's own bytes, whose count is below it.
 const LARGEST: usize = 65536;
 
+// The most words of store that a case may ask for.
+const MOST_WORDS: usize = 4096;
+
+const MOST_CASES: usize = 1000000;
+
 fn one(rt: &impl Print, s: &[u8], store: &mut [u32]) -> io::Result<()> {
     let decoded = decode(s, &mut *store, Mode::Base);
-    let answer = decoded.answer;
-    let address = decoded.agent_address;
-    printing::text(rt, b"one")?;
-    print::answer(rt, answer)?;
-    print::address(rt, address)?;
-    print::word(rt, b",", decoded.sub_agent_id)?;
-    print::word(rt, b",", decoded.sequence_number)?;
-    print::word(rt, b",", decoded.uptime)?;
-    print::word(rt, b",", decoded.num_samples)?;
-    print::left(rt, answer, &*store)
+    print::answer(rt, "one", decoded.answer)?;
+    print::header(rt, decoded)?;
+    print::left(rt, decoded.answer, &*store)
 }
 
 fn with_fields(rt: &impl Print, s: &[u8], store: &mut [u32]) -> io::Result<()> {
     let decoded = decode(s, &mut *store, Mode::Base);
-    let answer = decoded.answer;
-    printing::text(rt, b"fields")?;
-    print::answer(rt, answer)?;
-    each::left(rt, s, answer, &*store)
+    print::answer(rt, "fields", decoded.answer)?;
+    each::left(rt, s, decoded.answer, &*store)
 }
 
 fn run(rt: &impl Print, s: &[u8], store: &mut [u32]) -> io::Result<()> {
     let answer = decode_run(s, &mut *store, Mode::Base);
-    printing::text(rt, b"run")?;
-    print::answer(rt, answer)?;
+    print::answer(rt, "run", answer)?;
     print::left(rt, answer, &*store)
 }
 
-// A store whose words all hold what a descriptor is not likely to.
-fn lent() -> [u32; 4096]
-    ensures { 4096 ≡ length result }
-{
-    [print::LENT; 4096]
-}
-
-// The call of this letter, with so many words of store.
-fn call(rt: &impl Print, letter: u8, s: &[u8], words: usize) -> io::Result<()>
-    requires { words ≤ 4096 }
-{
-    let mut store = lent();
-    if letter == b'o' {
-        one(rt, s, &mut store[..words])
-    } else if letter == b'f' {
-        with_fields(rt, s, &mut store[..words])
-    } else {
-        run(rt, s, &mut store[..words])
+// The call of this letter, where any that is not 'o' or 'f' is a run. An enum of the letters would be matched here alone.
+fn call(rt: &impl Print, letter: u8, s: &[u8], store: &mut [u32]) -> io::Result<()> {
+    match letter {
+        b'o' => one(rt, s, store),
+        b'f' => with_fields(rt, s, store),
+        _ => run(rt, s, store),
     }
 }
 
-// The case's own bytes, read into the buffer and decoded; false where they are not all there.
-fn input(rt: &(impl Input + Print), letter: u8, words: usize, buffer: &mut [u8]) -> io::Result<bool>
-    requires { words ≤ 4096 }
-{
-    let n = printing::input::read_full(rt, &mut *buffer)?;
-    if n < buffer.len() {
-        return Ok(false);
-    }
-    call(rt, letter, &*buffer, words)?;
-    Ok(true)
-}
-
-fn two(high: u8, low: u8) -> usize
-    ensures { result < 65536 }
-{
-    print::octet(high) * 256 + print::octet(low)
-}
-
-// The next case; false where there is none.
-fn case(rt: &(impl Input + Print)) -> io::Result<bool> {
-    let mut head = [0u8; 5];
-    let n = printing::input::read_full(rt, &mut head)?;
-    if n == 0 {
-        return Ok(false);
-    }
-    let words = two(head[1], head[2]);
-    let size = two(head[3], head[4]);
+// A case behind its head: reads its bytes and makes its call. False where it asks for too many words, or its bytes are not all there.
+fn case(rt: &(impl Input + Print), head: [u8; 5]) -> io::Result<bool> {
+    let [letter, words_high, words_low, size_high, size_low] = head;
+    let words = usize::from(u16::from_be_bytes([words_high, words_low]));
+    let size = usize::from(u16::from_be_bytes([size_high, size_low]));
     let mut buffer = [0u8; LARGEST];
-    if n < 5 || 4096 < words || !input(rt, head[0], words, &mut buffer[..size])? {
-        printing::text(rt, b"input=bad\n")?;
+    if words > MOST_WORDS || read_full(rt, &mut buffer[..size])? < size {
         return Ok(false);
     }
+    let mut store = [print::LENT; MOST_WORDS];
+    call(rt, letter, &buffer[..size], &mut store[..words])?;
     Ok(true)
 }
 
 fn main(rt: HostRuntime) -> io::Result<()> {
-    let mut left: usize = 1000000;
-    while 0 < left {
-        if !case(&rt)? {
-            return Ok(());
+    let mut head = [0u8; 5];
+    for _ in 0..MOST_CASES {
+        let n = read_full(&rt, &mut head)?;
+        if n == 0 {
+            break;
         }
-        left -= 1;
+        if n < head.len() || !case(&rt, head)? {
+            return println!(rt; "input=bad");
+        }
     }
     Ok(())
 }

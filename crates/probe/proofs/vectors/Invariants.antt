@@ -1,9 +1,6 @@
--- Each vector moves the position on, and not past the end.
-use Rattle.std.proofs.Common.{length, ◌-◌, ◌≤◌}
+-- Each vector leaves fewer bytes behind it.
+use Rattle.std.proofs.Common.{length}
 use Rattle.probe.proofs.vectors.Given as goal
 
-abbrev pub invariant-loop-at : goal.invariant-loop-at
-invariant-loop-at g l = l.at ≤ length l.s
-
-abbrev pub decreases-loop-at : goal.decreases-loop-at
-decreases-loop-at g l = length l.s - l.at
+abbrev pub decreases-loop-head : goal.decreases-loop-head
+decreases-loop-head g l = length l.rest
