@@ -1,31 +1,28 @@
-"""What a C host links: a call for each layout, its proof, and that its contract settles what it answers."""
-from readers import MADE, WIDEST, antt, imports, proof_text
+"""What a C host gets: a call for each layout, and that its contract settles what it answers."""
+from readers import MADE, WIDEST, antt, imports
 
 CALL = '''
-#[unsafe(no_mangle)]
-pub extern "C" fn latchplume_read_%(name)s(%(parameters)s) -> %(type)s
-    ensures { answer_of result.outcome (%(shown)s result) ≡ read_at memo %(kind)d %(format)d s.now d.now }
+pub fn latchplume_read_%(name)s(%(parameters)s) -> Reading<%(type)s>
+    ensures { answer_of result.outcome (%(shown)s result.fields) ≡ read_at memo %(kind)d %(format)d s.now d.now }
 {
-    let asked = ask(s, d, %(kind)d, %(format)d);
-    let passed = asked.passed;
-    %(type)s::parse(passed, &s[..asked.end]%(mode)s)
+    read(s, d, %(kind)d, %(format)d, Mode::Memo)
 }
 '''
 BACK = '''
-pub %(name)s_lossless : Lossless (λ (r : %(type)s). answer_of r.outcome (%(name)s r))
-%(name)s_lossless = got_back (λ (x : Fields). record { outcome = outcome_of x; %(back)s }) (λ r. refl)
+pub %(name)s_lossless : Lossless (λ (r : Reading %(type)s). answer_of r.outcome (%(name)s r.fields))
+%(name)s_lossless = got_back (λ (x : Fields). record { outcome = outcome_of x; fields = record { %(back)s } }) (λ r. refl)
 '''
 SETTLED = '''  pub read_%(name)s_settled : Settles (call.%(file)s.latchplume_read_%(name)s.Reads.Learnt κs (s, (w, tt))) \
-(λ r. answer_of r.outcome (%(shown)s r)) (read_at memo %(kind)d %(format)d s.now w.now)
+(λ r. answer_of r.outcome (%(shown)s r.fields)) (read_at memo %(kind)d %(format)d s.now w.now)
   read_%(name)s_settled = settled %(name)s_lossless
 '''
 
 
 def said(layout):
     """What the texts say of a layout. The datagram's reader is written by hand, and has names of its own."""
-    line = 'pub extern "C" fn latchplume_read_%s(s: &[u8], d: &Words) -> %s' % (layout.name, layout.type)
+    line = 'pub fn latchplume_read_%s(s: &[u8], d: &Words) -> Reading<%s>' % (layout.name, layout.type)
     parameters = 's: &[u8], d: &Words' if len(line) <= WIDEST else '\n    s: &[u8],\n    d: &Words,\n'
-    return dict(vars(layout), parameters=parameters, shown='header_fields' if layout.by_hand else layout.name, mode=', Mode::Memo' * layout.modes)
+    return dict(vars(layout), parameters=parameters, shown='header_fields' if layout.by_hand else layout.name)
 
 
 def uses(layouts):
@@ -35,18 +32,12 @@ def uses(layouts):
 
 
 def source(file, about, layouts):
-    names = ['fields::ask::ask', 'fields::descriptor::Words', *('%s::%s::%s' % (one.crate, 'header' if one.by_hand else file, one.type) for one in layouts)]
-    names += ['layout::field::Mode'] * any(one.modes for one in layouts)
+    names = ['fields::ask::read', 'fields::descriptor::Words', 'layout::field::Mode', 'layout::record::Reading']
+    names += ['%s::%s::%s' % (one.crate, 'header' if one.by_hand else file, one.type) for one in layouts]
     lines = ['// ' + MADE, '// ' + about, 'ghost use Rattle.std.specs.Prelude.{◌≡◌};', 'ghost use Rattle.reading.specs.Layout.{memo};',
              'ghost use Rattle.xdr.specs.Shown.{answer_of};', *('ghost %s;' % line for line in uses(layouts)),
              'ghost use Rattle.fields.specs.Shown.{read_at};', '', *imports(names)]
     return '\n'.join(lines) + '\n' + ''.join(CALL % said(one) for one in layouts)
-
-
-def proof(layout):
-    """The proof of its call."""
-    shown = [('search asked', name) for name in ('ask-requires', 'slice-aggregate-parse', 'parse-requires', 'returns')]
-    return proof_text('host', '%s.latchplume_read_%s' % (layout.file, layout.name), ['use Rattle.fields.proofs.Asking.{asked}'], '', shown)
 
 
 def back(layout):

@@ -7,9 +7,9 @@ use Rattle.reading.specs.Answer.{payload_span_of, whole_span_of, payload, list_w
 use Rattle.xdr.specs.Shown.{span, answer_of}
 use Rattle.xdr.proofs.Settles.{Settles, settled}
 use Rattle.xdr.proofs.Lossless.{span_lossless}
-use Rattle.layout.specs.Shown.{a_segment}
-use Rattle.fields.specs.Shown.{listed, Asks, unread}
-use Rattle.fields.proofs.Lossless.{listed_lossless, segment_lossless}
+use Rattle.layout.specs.Shown.{a_segment, mode_of}
+use Rattle.fields.specs.Shown.{a_word, Asks, listed, read_at, unread}
+use Rattle.fields.proofs.Lossless.{listed_lossless, word_lossless, segment_lossless}
 use Rattle.fields.proofs as call
 
 -- ---- what field readings lead to
@@ -25,19 +25,27 @@ module _ (κs s : _) where
   pub payload_settled : (w r e : _) → call.payload.payload.Reads.Learnt κs (s, (w, tt)) r e → r.now ≡ payload s.now (get_or w.now 2 0) (get_or w.now 3 0)
   payload_settled w r e h = h
 
-  pub list_word_settled : (list index : _) → Settles (call.lists.list_word.Reads.Learnt κs (s, (list, (index, tt)))) listed (list_word_of s.now list.start list.count index)
-  list_word_settled list index = settled listed_lossless
+  pub list_word_settled : (list index : _) → Settles (call.lists.list_word.Reads.Learnt κs (s, (list, (index, tt)))) a_word (list_word_of s.now list.start list.count index)
+  list_word_settled list index = settled word_lossless
 
-  pub next_segment_settled : (at : _) → Settles (call.lists.next_segment.Reads.Learnt κs (s, (at, tt))) (λ r. answer_of r.outcome (a_segment r)) (segment_at s.now at)
+  pub next_segment_settled : (at : _) → Settles (call.lists.next_segment.Reads.Learnt κs (s, (at, tt))) (λ r. answer_of r.outcome (a_segment r.fields)) (segment_at s.now at)
   next_segment_settled at = settled segment_lossless
 
--- ---- what comes before them
+pub listed_settled : (κs word : _) → Settles (call.lists.ListedFromOptionU32.from.Reads.Learnt κs (word, tt)) listed (a_word word)
+listed_settled κs word = settled listed_lossless
 
-pub unread_settled : (κs code r e : _) → call.ask.unread.Reads.Learnt κs (code, tt) r e → r ≡ unread code
-unread_settled κs code r e h = h
+-- ---- what comes before them, and the reading of a record
+
+pub unread_settled : (κs reason r e : _) → call.ask.unread.Reads.Learnt κs (reason, tt) r e → r ≡ unread reason
+unread_settled κs reason r e h = h
 
 pub ask_says : (κs s w kind format r e : _) → call.ask.ask.Reads.Learnt κs (s, (w, (kind, (format, tt)))) r e → Asks kind format s.now w.now r
 ask_says κs s w kind format r e h = h
+
+-- of a record T, whose ghost members are g
+pub read_says : (T laws copied g dict clones copies κs s w kind format mode r e : _) → call.ask.read.Reads.Learnt T laws copied g dict clones copies κs (s, (w, (kind, (format, (mode, tt))))) r e
+    → answer_of r.outcome (g.values r.fields) ≡ read_at (mode_of mode) kind format s.now w.now
+read_says T laws copied g dict clones copies κs s w kind format mode r e h = h
 
 pub descriptor_settled : (κs w r e : _) → call.descriptor.descriptor.Reads.Learnt κs (w, tt) r e → r ≡ record { kind = get_or w.now 0 0; format = record { 0 = get_or w.now 1 0 }; start = get_or w.now 2 0; length = get_or w.now 3 0; parent = get_or w.now 4 0; depth = get_or w.now 5 0; first = get_or w.now 6 0 }
 descriptor_settled κs w r e h i = record { kind = h.kind i; format = record { 0 = h.format i }; start = h.start i; length = h.extent i; parent = h.parent i; depth = h.depth i; first = h.first i }

@@ -1,60 +1,57 @@
-// What comes before every field reading: whether the descriptor is one that it reads, and lies in the input.
-ghost use Rattle.std.specs.Prelude.{◌≡◌};
-ghost use Rattle.fields.specs.Shown.{Asks, not_asked, unread};
+// What comes before every field reading: whether the descriptor is one that it reads, and lies in the input; and the reading itself.
+ghost use Rattle.std.specs.Prelude.{◌≡◌, ℕ};
+ghost use Rattle.reading.specs.Answer.{layout_of};
+ghost use Rattle.xdr.specs.Shown.{answer_of};
+ghost use Rattle.layout.specs.Shown.{mode_of};
+ghost use Rattle.fields.specs.Shown.{Asks, read_at, unread};
 
 use crate::descriptor::{Words, descriptor};
-use xdr::{Cursor, MAX_INPUT_SIZE, Outcome, Passed};
-
-// Where to read from, and where the range ends; or a refusal, and an empty range.
-#[derive(Clone, Copy)]
-pub struct Asked {
-    pub passed: Passed,
-    pub end: usize,
-}
+use layout::field::Mode;
+use layout::record::{Reading, Record};
+use xdr::{Cursor, MAX_INPUT_SIZE, Reason, Refusal};
 
 // A refusal before the first item.
-pub fn unread(code: u32) -> Passed
-    ensures { result ≡ unread code }
+pub fn unread(reason: Reason) -> Refusal
+    ensures { result ≡ unread reason }
 {
-    Passed::Stop(Outcome {
-        code: code,
+    Refusal {
+        reason,
         at: 0,
         steps: 0,
-    })
-}
-
-fn refused(code: u32) -> Asked
-    ensures { result ≡ not_asked code }
-{
-    Asked {
-        passed: unread(code),
-        end: 0,
     }
 }
 
-pub fn ask(s: &[u8], d: &Words, kind: u32, format: u32) -> Asked
+// Where to read from, and where the range ends.
+#[tactic(auto, unfolding(reading::specs::Answer::read))]
+pub fn ask(s: &[u8], d: &Words, kind: u32, format: u32) -> Result<(Cursor, usize), Refusal>
     ensures { Asks kind format s.now d.now result }
 {
     if MAX_INPUT_SIZE < s.len() {
-        return refused(1);
+        return Err(unread(Reason::InputTooLong));
     }
     let x = descriptor(d);
     let start = x.start as usize;
     let end = start + x.length as usize;
     if s.len() < end {
-        return refused(10);
+        return Err(unread(Reason::OutsideInput));
     }
-    if x.kind != kind {
-        return refused(11);
+    if x.kind != kind || x.format.0 != format {
+        return Err(unread(Reason::OtherFormat));
     }
-    if x.format.0 != format {
-        return refused(11);
-    }
-    Asked {
-        passed: Passed::Got(Cursor {
-            at: start,
-            steps: 0,
-        }),
-        end: end,
+    let first = Cursor {
+        at: start,
+        steps: 0,
+    };
+    Ok((first, end))
+}
+
+// The fields of a descriptor of this kind and format, as the record T has them.
+pub fn read<T: Record>(s: &[u8], d: &Words, kind: u32, format: u32, mode: Mode) -> Reading<T>
+    requires { T.layout (mode_of mode) ≡ layout_of (mode_of mode) kind format }
+    ensures { answer_of result.outcome (T.values result.fields) ≡ read_at (mode_of mode) kind format s.now d.now }
+{
+    match ask(s, d, kind, format) {
+        Ok((c, end)) => Reading::<T>::of(Ok(c), &s[..end], mode),
+        Err(x) => Reading::<T>::of(Err(x), s, mode),
     }
 }

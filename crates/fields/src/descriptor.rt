@@ -9,13 +9,14 @@ pub type Words = [u32; DESCRIPTOR_WORDS];
 pub fn descriptor(w: &Words) -> Descriptor
     ensures { HasWords w.now result }
 {
+    let [kind, format, start, length, parent, depth, first] = *w;
     Descriptor {
-        kind: w[0],
-        format: DataFormat(w[1]),
-        start: w[2],
-        length: w[3],
-        parent: w[4],
-        depth: w[5],
-        first: w[6],
+        kind,
+        format: DataFormat(format),
+        start,
+        length,
+        parent,
+        depth,
+        first,
     }
 }

@@ -8,25 +8,21 @@ use load;
 use xdr::{MAX_INPUT_SIZE, Span};
 
 // Where a descriptor's payload lies. It is empty where a field reading would refuse the range.
+#[tactic(auto, unfolding(reading::specs::Answer::payload_span_of))]
 pub fn payload_span(s: &[u8], d: &Words) -> Span
     ensures { span result ≡ payload_span_of s.now (get_or d.now 2 0) (get_or d.now 3 0) }
 {
     let x = descriptor(d);
     let start = x.start as usize;
     let count = x.length as usize;
-    if MAX_INPUT_SIZE < s.len() {
-        return Span { start: 0, count: 0 };
+    if MAX_INPUT_SIZE < s.len() || s.len() < start + count {
+        return Span::default();
     }
-    if s.len() < start + count {
-        return Span { start: 0, count: 0 };
-    }
-    Span {
-        start: start,
-        count: count,
-    }
+    Span { start, count }
 }
 
 // Where all of it lies, from its first byte to the end of its pad: what a relay forwards. It is empty likewise.
+#[tactic(auto, unfolding(reading::specs::Answer::whole_span_of))]
 pub fn whole_span(s: &[u8], d: &Words) -> Span
     ensures { span result ≡ whole_span_of s.now (get_or d.now 2 0) (get_or d.now 3 0) (get_or d.now 6 0) }
 {
@@ -34,14 +30,8 @@ pub fn whole_span(s: &[u8], d: &Words) -> Span
     let first = x.first as usize;
     let start = x.start as usize;
     let end = start + load::padded(x.length as usize);
-    if MAX_INPUT_SIZE < s.len() {
-        return Span { start: 0, count: 0 };
-    }
-    if start < first {
-        return Span { start: 0, count: 0 };
-    }
-    if s.len() < end {
-        return Span { start: 0, count: 0 };
+    if MAX_INPUT_SIZE < s.len() || start < first || s.len() < end {
+        return Span::default();
     }
     Span {
         start: first,
@@ -50,10 +40,10 @@ pub fn whole_span(s: &[u8], d: &Words) -> Span
 }
 
 // A descriptor's payload, as that part of the caller's buffer.
-pub fn payload<'a, 'b>(s: &'a [u8], d: &'b Words) -> &'a [u8]
+#[tactic(auto, unfolding(reading::specs::Answer::payload, reading::specs::Answer::payload_span_of))]
+pub fn payload<'a>(s: &'a [u8], d: &Words) -> &'a [u8]
     ensures { result.now ≡ payload s.now (get_or d.now 2 0) (get_or d.now 3 0) }
 {
     let x = payload_span(s, d);
-    let start = x.start;
-    &s[start..start + x.count]
+    &s[x.start..x.start + x.count]
 }

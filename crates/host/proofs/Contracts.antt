@@ -47,5 +47,5 @@ module _ (κs s : _) where
   pub list_word_settled : (start count index : _) → Settles (call.lists.latchplume_list_word.Reads.Learnt κs (s, (start, (count, (index, tt))))) listed (list_word_of s.now start count index)
   list_word_settled start count index = settled listed_lossless
 
-  pub next_segment_settled : (at : _) → Settles (call.lists.latchplume_next_segment.Reads.Learnt κs (s, (at, tt))) (λ r. answer_of r.outcome (a_segment r)) (segment_at s.now at)
+  pub next_segment_settled : (at : _) → Settles (call.lists.latchplume_next_segment.Reads.Learnt κs (s, (at, tt))) (λ r. answer_of r.outcome (a_segment r.fields)) (segment_at s.now at)
   next_segment_settled at = settled segment_lossless

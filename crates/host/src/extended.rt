@@ -6,72 +6,53 @@ ghost use Rattle.xdr.specs.Shown.{answer_of};
 ghost use Rattle.flow_layouts.specs.Shown.{extended_switch, extended_router, extended_gateway, extended_user, extended_url, extended_nat, extended_vlan_tunnel};
 ghost use Rattle.fields.specs.Shown.{read_at};
 
-use fields::ask::ask;
+use fields::ask::read;
 use fields::descriptor::Words;
 use flow_layouts::extended::{
     ExtendedGateway, ExtendedNat, ExtendedRouter, ExtendedSwitch, ExtendedUrl, ExtendedUser,
     ExtendedVlanTunnel,
 };
+use layout::field::Mode;
+use layout::record::Reading;
 
-#[unsafe(no_mangle)]
-pub extern "C" fn latchplume_read_extended_switch(s: &[u8], d: &Words) -> ExtendedSwitch
-    ensures { answer_of result.outcome (extended_switch result) ≡ read_at memo 2 1001 s.now d.now }
+pub fn latchplume_read_extended_switch(s: &[u8], d: &Words) -> Reading<ExtendedSwitch>
+    ensures { answer_of result.outcome (extended_switch result.fields) ≡ read_at memo 2 1001 s.now d.now }
 {
-    let asked = ask(s, d, 2, 1001);
-    let passed = asked.passed;
-    ExtendedSwitch::parse(passed, &s[..asked.end])
+    read(s, d, 2, 1001, Mode::Memo)
 }
 
-#[unsafe(no_mangle)]
-pub extern "C" fn latchplume_read_extended_router(s: &[u8], d: &Words) -> ExtendedRouter
-    ensures { answer_of result.outcome (extended_router result) ≡ read_at memo 2 1002 s.now d.now }
+pub fn latchplume_read_extended_router(s: &[u8], d: &Words) -> Reading<ExtendedRouter>
+    ensures { answer_of result.outcome (extended_router result.fields) ≡ read_at memo 2 1002 s.now d.now }
 {
-    let asked = ask(s, d, 2, 1002);
-    let passed = asked.passed;
-    ExtendedRouter::parse(passed, &s[..asked.end])
+    read(s, d, 2, 1002, Mode::Memo)
 }
 
-#[unsafe(no_mangle)]
-pub extern "C" fn latchplume_read_extended_gateway(s: &[u8], d: &Words) -> ExtendedGateway
-    ensures { answer_of result.outcome (extended_gateway result) ≡ read_at memo 2 1003 s.now d.now }
+pub fn latchplume_read_extended_gateway(s: &[u8], d: &Words) -> Reading<ExtendedGateway>
+    ensures { answer_of result.outcome (extended_gateway result.fields) ≡ read_at memo 2 1003 s.now d.now }
 {
-    let asked = ask(s, d, 2, 1003);
-    let passed = asked.passed;
-    ExtendedGateway::parse(passed, &s[..asked.end])
+    read(s, d, 2, 1003, Mode::Memo)
 }
 
-#[unsafe(no_mangle)]
-pub extern "C" fn latchplume_read_extended_user(s: &[u8], d: &Words) -> ExtendedUser
-    ensures { answer_of result.outcome (extended_user result) ≡ read_at memo 2 1004 s.now d.now }
+pub fn latchplume_read_extended_user(s: &[u8], d: &Words) -> Reading<ExtendedUser>
+    ensures { answer_of result.outcome (extended_user result.fields) ≡ read_at memo 2 1004 s.now d.now }
 {
-    let asked = ask(s, d, 2, 1004);
-    let passed = asked.passed;
-    ExtendedUser::parse(passed, &s[..asked.end])
+    read(s, d, 2, 1004, Mode::Memo)
 }
 
-#[unsafe(no_mangle)]
-pub extern "C" fn latchplume_read_extended_url(s: &[u8], d: &Words) -> ExtendedUrl
-    ensures { answer_of result.outcome (extended_url result) ≡ read_at memo 2 1005 s.now d.now }
+pub fn latchplume_read_extended_url(s: &[u8], d: &Words) -> Reading<ExtendedUrl>
+    ensures { answer_of result.outcome (extended_url result.fields) ≡ read_at memo 2 1005 s.now d.now }
 {
-    let asked = ask(s, d, 2, 1005);
-    let passed = asked.passed;
-    ExtendedUrl::parse(passed, &s[..asked.end])
+    read(s, d, 2, 1005, Mode::Memo)
 }
 
-#[unsafe(no_mangle)]
-pub extern "C" fn latchplume_read_extended_nat(s: &[u8], d: &Words) -> ExtendedNat
-    ensures { answer_of result.outcome (extended_nat result) ≡ read_at memo 2 1007 s.now d.now }
+pub fn latchplume_read_extended_nat(s: &[u8], d: &Words) -> Reading<ExtendedNat>
+    ensures { answer_of result.outcome (extended_nat result.fields) ≡ read_at memo 2 1007 s.now d.now }
 {
-    let asked = ask(s, d, 2, 1007);
-    let passed = asked.passed;
-    ExtendedNat::parse(passed, &s[..asked.end])
+    read(s, d, 2, 1007, Mode::Memo)
 }
 
-#[unsafe(no_mangle)]
-pub extern "C" fn latchplume_read_extended_vlan_tunnel(s: &[u8], d: &Words) -> ExtendedVlanTunnel
-    ensures { answer_of result.outcome (extended_vlan_tunnel result) ≡ read_at memo 2 1012 s.now d.now }
+pub fn latchplume_read_extended_vlan_tunnel(s: &[u8], d: &Words) -> Reading<ExtendedVlanTunnel>
+    ensures { answer_of result.outcome (extended_vlan_tunnel result.fields) ≡ read_at memo 2 1012 s.now d.now }
 {
-    let asked = ask(s, d, 2, 1012);
-    let passed = asked.passed;
-    ExtendedVlanTunnel::parse(passed, &s[..asked.end])
+    read(s, d, 2, 1012, Mode::Memo)
 }

@@ -8,65 +8,49 @@ ghost use Rattle.samples.specs.Shown.{flow_sample, counters_sample, flow_sample_
 ghost use Rattle.fields.specs.Shown.{read_at};
 
 use datagram::header::Header;
-use fields::ask::ask;
+use fields::ask::read;
 use fields::descriptor::Words;
+use layout::field::Mode;
+use layout::record::Reading;
 use samples::heads::{
     CountersSample, CountersSampleExpanded, DiscardedPacket, FlowSample, FlowSampleExpanded,
 };
 
-#[unsafe(no_mangle)]
-pub extern "C" fn latchplume_read_header(s: &[u8], d: &Words) -> Header
-    ensures { answer_of result.outcome (header_fields result) ≡ read_at memo 0 0 s.now d.now }
+pub fn latchplume_read_header(s: &[u8], d: &Words) -> Reading<Header>
+    ensures { answer_of result.outcome (header_fields result.fields) ≡ read_at memo 0 0 s.now d.now }
 {
-    let asked = ask(s, d, 0, 0);
-    let passed = asked.passed;
-    Header::parse(passed, &s[..asked.end])
+    read(s, d, 0, 0, Mode::Memo)
 }
 
-#[unsafe(no_mangle)]
-pub extern "C" fn latchplume_read_flow_sample(s: &[u8], d: &Words) -> FlowSample
-    ensures { answer_of result.outcome (flow_sample result) ≡ read_at memo 1 1 s.now d.now }
+pub fn latchplume_read_flow_sample(s: &[u8], d: &Words) -> Reading<FlowSample>
+    ensures { answer_of result.outcome (flow_sample result.fields) ≡ read_at memo 1 1 s.now d.now }
 {
-    let asked = ask(s, d, 1, 1);
-    let passed = asked.passed;
-    FlowSample::parse(passed, &s[..asked.end])
+    read(s, d, 1, 1, Mode::Memo)
 }
 
-#[unsafe(no_mangle)]
-pub extern "C" fn latchplume_read_counters_sample(s: &[u8], d: &Words) -> CountersSample
-    ensures { answer_of result.outcome (counters_sample result) ≡ read_at memo 1 2 s.now d.now }
+pub fn latchplume_read_counters_sample(s: &[u8], d: &Words) -> Reading<CountersSample>
+    ensures { answer_of result.outcome (counters_sample result.fields) ≡ read_at memo 1 2 s.now d.now }
 {
-    let asked = ask(s, d, 1, 2);
-    let passed = asked.passed;
-    CountersSample::parse(passed, &s[..asked.end])
+    read(s, d, 1, 2, Mode::Memo)
 }
 
-#[unsafe(no_mangle)]
-pub extern "C" fn latchplume_read_flow_sample_expanded(s: &[u8], d: &Words) -> FlowSampleExpanded
-    ensures { answer_of result.outcome (flow_sample_expanded result) ≡ read_at memo 1 3 s.now d.now }
+pub fn latchplume_read_flow_sample_expanded(s: &[u8], d: &Words) -> Reading<FlowSampleExpanded>
+    ensures { answer_of result.outcome (flow_sample_expanded result.fields) ≡ read_at memo 1 3 s.now d.now }
 {
-    let asked = ask(s, d, 1, 3);
-    let passed = asked.passed;
-    FlowSampleExpanded::parse(passed, &s[..asked.end])
+    read(s, d, 1, 3, Mode::Memo)
 }
 
-#[unsafe(no_mangle)]
-pub extern "C" fn latchplume_read_counters_sample_expanded(
+pub fn latchplume_read_counters_sample_expanded(
     s: &[u8],
     d: &Words,
-) -> CountersSampleExpanded
-    ensures { answer_of result.outcome (counters_sample_expanded result) ≡ read_at memo 1 4 s.now d.now }
+) -> Reading<CountersSampleExpanded>
+    ensures { answer_of result.outcome (counters_sample_expanded result.fields) ≡ read_at memo 1 4 s.now d.now }
 {
-    let asked = ask(s, d, 1, 4);
-    let passed = asked.passed;
-    CountersSampleExpanded::parse(passed, &s[..asked.end])
+    read(s, d, 1, 4, Mode::Memo)
 }
 
-#[unsafe(no_mangle)]
-pub extern "C" fn latchplume_read_discarded_packet(s: &[u8], d: &Words) -> DiscardedPacket
-    ensures { answer_of result.outcome (discarded_packet result) ≡ read_at memo 1 5 s.now d.now }
+pub fn latchplume_read_discarded_packet(s: &[u8], d: &Words) -> Reading<DiscardedPacket>
+    ensures { answer_of result.outcome (discarded_packet result.fields) ≡ read_at memo 1 5 s.now d.now }
 {
-    let asked = ask(s, d, 1, 5);
-    let passed = asked.passed;
-    DiscardedPacket::parse(passed, &s[..asked.end])
+    read(s, d, 1, 5, Mode::Memo)
 }

@@ -21,16 +21,14 @@ pub mod sampled;
 pub mod wireless;
 
 // One datagram.
-#[unsafe(no_mangle)]
-pub extern "C" fn latchplume_decode(s: &[u8], store: &mut [u32]) -> Decoded
+pub fn latchplume_decode(s: &[u8], store: &mut [u32]) -> Decoded
     ensures { decoded result store.new ≡ one memo s.now store.old }
 {
     decode(s, store, Mode::Memo)
 }
 
 // A run of datagrams end to end.
-#[unsafe(no_mangle)]
-pub extern "C" fn latchplume_decode_run(s: &[u8], store: &mut [u32]) -> Answer
+pub fn latchplume_decode_run(s: &[u8], store: &mut [u32]) -> Answer
     ensures { ran result store.new ≡ run memo s.now store.old }
 {
     decode_run(s, store, Mode::Memo)

@@ -8,25 +8,17 @@ ghost use Rattle.fields.specs.Shown.{listed};
 use fields::lists;
 use fields::lists::Listed;
 use layout::lists::Segment;
+use layout::record::Reading;
 use xdr::Span;
 
-#[unsafe(no_mangle)]
-pub extern "C" fn latchplume_list_word(s: &[u8], start: usize, count: usize, index: usize) -> Listed
+pub fn latchplume_list_word(s: &[u8], start: usize, count: usize, index: usize) -> Listed
     ensures { listed result ≡ list_word_of s.now start count index }
 {
-    lists::list_word(
-        s,
-        Span {
-            start: start,
-            count: count,
-        },
-        index,
-    )
+    lists::list_word(s, Span { start, count }, index).into()
 }
 
-#[unsafe(no_mangle)]
-pub extern "C" fn latchplume_next_segment(s: &[u8], at: usize) -> Segment
-    ensures { answer_of result.outcome (a_segment result) ≡ segment_at s.now at }
+pub fn latchplume_next_segment(s: &[u8], at: usize) -> Reading<Segment>
+    ensures { answer_of result.outcome (a_segment result.fields) ≡ segment_at s.now at }
 {
     lists::next_segment(s, at)
 }

@@ -7,15 +7,13 @@ use fields::descriptor::Words;
 use fields::payload;
 use xdr::Span;
 
-#[unsafe(no_mangle)]
-pub extern "C" fn latchplume_payload(s: &[u8], d: &Words) -> Span
+pub fn latchplume_payload(s: &[u8], d: &Words) -> Span
     ensures { span result ≡ payload_span_of s.now (get_or d.now 2 0) (get_or d.now 3 0) }
 {
     payload::payload_span(s, d)
 }
 
-#[unsafe(no_mangle)]
-pub extern "C" fn latchplume_whole(s: &[u8], d: &Words) -> Span
+pub fn latchplume_whole(s: &[u8], d: &Words) -> Span
     ensures { span result ≡ whole_span_of s.now (get_or d.now 2 0) (get_or d.now 3 0) (get_or d.now 6 0) }
 {
     payload::whole_span(s, d)

@@ -10,68 +10,52 @@ use counters::polled::{
     EthernetInterfaceCounters, GenericInterfaceCounters, ProcessorCounters, TokenRingCounters,
     Vg100InterfaceCounters, VlanCounters,
 };
-use fields::ask::ask;
+use fields::ask::read;
 use fields::descriptor::Words;
+use layout::field::Mode;
+use layout::record::Reading;
 
-#[unsafe(no_mangle)]
-pub extern "C" fn latchplume_read_generic_interface_counters(
+pub fn latchplume_read_generic_interface_counters(
     s: &[u8],
     d: &Words,
-) -> GenericInterfaceCounters
-    ensures { answer_of result.outcome (generic_interface_counters result) ≡ read_at memo 3 1 s.now d.now }
+) -> Reading<GenericInterfaceCounters>
+    ensures { answer_of result.outcome (generic_interface_counters result.fields) ≡ read_at memo 3 1 s.now d.now }
 {
-    let asked = ask(s, d, 3, 1);
-    let passed = asked.passed;
-    GenericInterfaceCounters::parse(passed, &s[..asked.end])
+    read(s, d, 3, 1, Mode::Memo)
 }
 
-#[unsafe(no_mangle)]
-pub extern "C" fn latchplume_read_ethernet_interface_counters(
+pub fn latchplume_read_ethernet_interface_counters(
     s: &[u8],
     d: &Words,
-) -> EthernetInterfaceCounters
-    ensures { answer_of result.outcome (ethernet_interface_counters result) ≡ read_at memo 3 2 s.now d.now }
+) -> Reading<EthernetInterfaceCounters>
+    ensures { answer_of result.outcome (ethernet_interface_counters result.fields) ≡ read_at memo 3 2 s.now d.now }
 {
-    let asked = ask(s, d, 3, 2);
-    let passed = asked.passed;
-    EthernetInterfaceCounters::parse(passed, &s[..asked.end])
+    read(s, d, 3, 2, Mode::Memo)
 }
 
-#[unsafe(no_mangle)]
-pub extern "C" fn latchplume_read_token_ring_counters(s: &[u8], d: &Words) -> TokenRingCounters
-    ensures { answer_of result.outcome (token_ring_counters result) ≡ read_at memo 3 3 s.now d.now }
+pub fn latchplume_read_token_ring_counters(s: &[u8], d: &Words) -> Reading<TokenRingCounters>
+    ensures { answer_of result.outcome (token_ring_counters result.fields) ≡ read_at memo 3 3 s.now d.now }
 {
-    let asked = ask(s, d, 3, 3);
-    let passed = asked.passed;
-    TokenRingCounters::parse(passed, &s[..asked.end])
+    read(s, d, 3, 3, Mode::Memo)
 }
 
-#[unsafe(no_mangle)]
-pub extern "C" fn latchplume_read_vg100_interface_counters(
+pub fn latchplume_read_vg100_interface_counters(
     s: &[u8],
     d: &Words,
-) -> Vg100InterfaceCounters
-    ensures { answer_of result.outcome (vg100_interface_counters result) ≡ read_at memo 3 4 s.now d.now }
+) -> Reading<Vg100InterfaceCounters>
+    ensures { answer_of result.outcome (vg100_interface_counters result.fields) ≡ read_at memo 3 4 s.now d.now }
 {
-    let asked = ask(s, d, 3, 4);
-    let passed = asked.passed;
-    Vg100InterfaceCounters::parse(passed, &s[..asked.end])
+    read(s, d, 3, 4, Mode::Memo)
 }
 
-#[unsafe(no_mangle)]
-pub extern "C" fn latchplume_read_vlan_counters(s: &[u8], d: &Words) -> VlanCounters
-    ensures { answer_of result.outcome (vlan_counters result) ≡ read_at memo 3 5 s.now d.now }
+pub fn latchplume_read_vlan_counters(s: &[u8], d: &Words) -> Reading<VlanCounters>
+    ensures { answer_of result.outcome (vlan_counters result.fields) ≡ read_at memo 3 5 s.now d.now }
 {
-    let asked = ask(s, d, 3, 5);
-    let passed = asked.passed;
-    VlanCounters::parse(passed, &s[..asked.end])
+    read(s, d, 3, 5, Mode::Memo)
 }
 
-#[unsafe(no_mangle)]
-pub extern "C" fn latchplume_read_processor_counters(s: &[u8], d: &Words) -> ProcessorCounters
-    ensures { answer_of result.outcome (processor_counters result) ≡ read_at memo 3 1001 s.now d.now }
+pub fn latchplume_read_processor_counters(s: &[u8], d: &Words) -> Reading<ProcessorCounters>
+    ensures { answer_of result.outcome (processor_counters result.fields) ≡ read_at memo 3 1001 s.now d.now }
 {
-    let asked = ask(s, d, 3, 1001);
-    let passed = asked.passed;
-    ProcessorCounters::parse(passed, &s[..asked.end])
+    read(s, d, 3, 1001, Mode::Memo)
 }

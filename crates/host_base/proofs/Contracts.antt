@@ -31,5 +31,5 @@ module _ (κs s store : _) where
       (run base s.now store.now)
   decode_run_base_settled = settled ran_lossless
 
-pub read_sampled_ethernet_base_settled : (κs s w : _) → Settles (call.latchplume_read_sampled_ethernet_base.Reads.Learnt κs (s, (w, tt))) (λ r. answer_of r.outcome (sampled_ethernet r)) (read_at base 2 2 s.now w.now)
+pub read_sampled_ethernet_base_settled : (κs s w : _) → Settles (call.latchplume_read_sampled_ethernet_base.Reads.Learnt κs (s, (w, tt))) (λ r. answer_of r.outcome (sampled_ethernet r.fields)) (read_at base 2 2 s.now w.now)
 read_sampled_ethernet_base_settled κs s w = settled sampled_ethernet_lossless

@@ -12,33 +12,29 @@ ghost use Rattle.fields.specs.Shown.{read_at};
 
 use datagram::decode::{Answer, Decoded, decode};
 use datagram::run::decode_run;
-use fields::ask::ask;
+use fields::ask::read;
 use fields::descriptor::Words;
 use flow_layouts::sampled::SampledEthernet;
 use layout::field::Mode;
+use layout::record::Reading;
 
 // One datagram.
-#[unsafe(no_mangle)]
-pub extern "C" fn latchplume_decode_base(s: &[u8], store: &mut [u32]) -> Decoded
+pub fn latchplume_decode_base(s: &[u8], store: &mut [u32]) -> Decoded
     ensures { decoded result store.new ≡ one base s.now store.old }
 {
     decode(s, store, Mode::Base)
 }
 
 // A run of datagrams end to end.
-#[unsafe(no_mangle)]
-pub extern "C" fn latchplume_decode_run_base(s: &[u8], store: &mut [u32]) -> Answer
+pub fn latchplume_decode_run_base(s: &[u8], store: &mut [u32]) -> Answer
     ensures { ran result store.new ≡ run base s.now store.old }
 {
     decode_run(s, store, Mode::Base)
 }
 
 // The fields of flow record 2; those of every other descriptor are the same in each mode.
-#[unsafe(no_mangle)]
-pub extern "C" fn latchplume_read_sampled_ethernet_base(s: &[u8], d: &Words) -> SampledEthernet
-    ensures { answer_of result.outcome (sampled_ethernet result) ≡ read_at base 2 2 s.now d.now }
+pub fn latchplume_read_sampled_ethernet_base(s: &[u8], d: &Words) -> Reading<SampledEthernet>
+    ensures { answer_of result.outcome (sampled_ethernet result.fields) ≡ read_at base 2 2 s.now d.now }
 {
-    let asked = ask(s, d, 2, 2);
-    let passed = asked.passed;
-    SampledEthernet::parse(passed, &s[..asked.end], Mode::Base)
+    read(s, d, 2, 2, Mode::Base)
 }

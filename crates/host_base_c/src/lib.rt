@@ -13,6 +13,8 @@ ghost use Rattle.fields.specs.Shown.{read_at};
 use datagram::decode::{Answer, Decoded};
 use fields::descriptor::Words;
 use flow_layouts::sampled::SampledEthernet;
+use layout::record::Reading;
+use xdr::Outcome;
 
 // One datagram.
 #[unsafe(no_mangle)]
@@ -30,10 +32,22 @@ pub extern "C" fn latchplume_decode_run_base(s: &[u8], store: &mut [u32]) -> Ans
     host_base::latchplume_decode_run_base(s, store)
 }
 
+// What C gets of a reading of SampledEthernet.
+#[repr(C)]
+#[derive(Clone, Copy)]
+pub struct SampledEthernetReading {
+    pub outcome: Outcome,
+    pub fields: SampledEthernet,
+}
+
 // The fields of flow record 2; those of every other descriptor are the same in each mode.
 #[unsafe(no_mangle)]
-pub extern "C" fn latchplume_read_sampled_ethernet_base(s: &[u8], d: &Words) -> SampledEthernet
-    ensures { answer_of result.outcome (sampled_ethernet result) ≡ read_at base 2 2 s.now d.now }
+pub extern "C" fn latchplume_read_sampled_ethernet_base(
+    s: &[u8],
+    d: &Words,
+) -> SampledEthernetReading
+    ensures { answer_of result.outcome (sampled_ethernet result.fields) ≡ read_at base 2 2 s.now d.now }
 {
-    host_base::latchplume_read_sampled_ethernet_base(s, d)
+    let Reading { outcome, fields } = host_base::latchplume_read_sampled_ethernet_base(s, d);
+    SampledEthernetReading { outcome, fields }
 }

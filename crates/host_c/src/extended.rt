@@ -11,52 +11,120 @@ use flow_layouts::extended::{
     ExtendedGateway, ExtendedNat, ExtendedRouter, ExtendedSwitch, ExtendedUrl, ExtendedUser,
     ExtendedVlanTunnel,
 };
+use layout::record::Reading;
+use xdr::Outcome;
 
-#[unsafe(no_mangle)]
-pub extern "C" fn latchplume_read_extended_switch(s: &[u8], d: &Words) -> ExtendedSwitch
-    ensures { answer_of result.outcome (extended_switch result) ≡ read_at memo 2 1001 s.now d.now }
-{
-    host::extended::latchplume_read_extended_switch(s, d)
+// What C gets of a reading of ExtendedSwitch.
+#[repr(C)]
+#[derive(Clone, Copy)]
+pub struct ExtendedSwitchReading {
+    pub outcome: Outcome,
+    pub fields: ExtendedSwitch,
 }
 
 #[unsafe(no_mangle)]
-pub extern "C" fn latchplume_read_extended_router(s: &[u8], d: &Words) -> ExtendedRouter
-    ensures { answer_of result.outcome (extended_router result) ≡ read_at memo 2 1002 s.now d.now }
+pub extern "C" fn latchplume_read_extended_switch(s: &[u8], d: &Words) -> ExtendedSwitchReading
+    ensures { answer_of result.outcome (extended_switch result.fields) ≡ read_at memo 2 1001 s.now d.now }
 {
-    host::extended::latchplume_read_extended_router(s, d)
+    let Reading { outcome, fields } = host::extended::latchplume_read_extended_switch(s, d);
+    ExtendedSwitchReading { outcome, fields }
+}
+
+// What C gets of a reading of ExtendedRouter.
+#[repr(C)]
+#[derive(Clone, Copy)]
+pub struct ExtendedRouterReading {
+    pub outcome: Outcome,
+    pub fields: ExtendedRouter,
 }
 
 #[unsafe(no_mangle)]
-pub extern "C" fn latchplume_read_extended_gateway(s: &[u8], d: &Words) -> ExtendedGateway
-    ensures { answer_of result.outcome (extended_gateway result) ≡ read_at memo 2 1003 s.now d.now }
+pub extern "C" fn latchplume_read_extended_router(s: &[u8], d: &Words) -> ExtendedRouterReading
+    ensures { answer_of result.outcome (extended_router result.fields) ≡ read_at memo 2 1002 s.now d.now }
 {
-    host::extended::latchplume_read_extended_gateway(s, d)
+    let Reading { outcome, fields } = host::extended::latchplume_read_extended_router(s, d);
+    ExtendedRouterReading { outcome, fields }
+}
+
+// What C gets of a reading of ExtendedGateway.
+#[repr(C)]
+#[derive(Clone, Copy)]
+pub struct ExtendedGatewayReading {
+    pub outcome: Outcome,
+    pub fields: ExtendedGateway,
 }
 
 #[unsafe(no_mangle)]
-pub extern "C" fn latchplume_read_extended_user(s: &[u8], d: &Words) -> ExtendedUser
-    ensures { answer_of result.outcome (extended_user result) ≡ read_at memo 2 1004 s.now d.now }
+pub extern "C" fn latchplume_read_extended_gateway(s: &[u8], d: &Words) -> ExtendedGatewayReading
+    ensures { answer_of result.outcome (extended_gateway result.fields) ≡ read_at memo 2 1003 s.now d.now }
 {
-    host::extended::latchplume_read_extended_user(s, d)
+    let Reading { outcome, fields } = host::extended::latchplume_read_extended_gateway(s, d);
+    ExtendedGatewayReading { outcome, fields }
+}
+
+// What C gets of a reading of ExtendedUser.
+#[repr(C)]
+#[derive(Clone, Copy)]
+pub struct ExtendedUserReading {
+    pub outcome: Outcome,
+    pub fields: ExtendedUser,
 }
 
 #[unsafe(no_mangle)]
-pub extern "C" fn latchplume_read_extended_url(s: &[u8], d: &Words) -> ExtendedUrl
-    ensures { answer_of result.outcome (extended_url result) ≡ read_at memo 2 1005 s.now d.now }
+pub extern "C" fn latchplume_read_extended_user(s: &[u8], d: &Words) -> ExtendedUserReading
+    ensures { answer_of result.outcome (extended_user result.fields) ≡ read_at memo 2 1004 s.now d.now }
 {
-    host::extended::latchplume_read_extended_url(s, d)
+    let Reading { outcome, fields } = host::extended::latchplume_read_extended_user(s, d);
+    ExtendedUserReading { outcome, fields }
+}
+
+// What C gets of a reading of ExtendedUrl.
+#[repr(C)]
+#[derive(Clone, Copy)]
+pub struct ExtendedUrlReading {
+    pub outcome: Outcome,
+    pub fields: ExtendedUrl,
 }
 
 #[unsafe(no_mangle)]
-pub extern "C" fn latchplume_read_extended_nat(s: &[u8], d: &Words) -> ExtendedNat
-    ensures { answer_of result.outcome (extended_nat result) ≡ read_at memo 2 1007 s.now d.now }
+pub extern "C" fn latchplume_read_extended_url(s: &[u8], d: &Words) -> ExtendedUrlReading
+    ensures { answer_of result.outcome (extended_url result.fields) ≡ read_at memo 2 1005 s.now d.now }
 {
-    host::extended::latchplume_read_extended_nat(s, d)
+    let Reading { outcome, fields } = host::extended::latchplume_read_extended_url(s, d);
+    ExtendedUrlReading { outcome, fields }
+}
+
+// What C gets of a reading of ExtendedNat.
+#[repr(C)]
+#[derive(Clone, Copy)]
+pub struct ExtendedNatReading {
+    pub outcome: Outcome,
+    pub fields: ExtendedNat,
 }
 
 #[unsafe(no_mangle)]
-pub extern "C" fn latchplume_read_extended_vlan_tunnel(s: &[u8], d: &Words) -> ExtendedVlanTunnel
-    ensures { answer_of result.outcome (extended_vlan_tunnel result) ≡ read_at memo 2 1012 s.now d.now }
+pub extern "C" fn latchplume_read_extended_nat(s: &[u8], d: &Words) -> ExtendedNatReading
+    ensures { answer_of result.outcome (extended_nat result.fields) ≡ read_at memo 2 1007 s.now d.now }
 {
-    host::extended::latchplume_read_extended_vlan_tunnel(s, d)
+    let Reading { outcome, fields } = host::extended::latchplume_read_extended_nat(s, d);
+    ExtendedNatReading { outcome, fields }
+}
+
+// What C gets of a reading of ExtendedVlanTunnel.
+#[repr(C)]
+#[derive(Clone, Copy)]
+pub struct ExtendedVlanTunnelReading {
+    pub outcome: Outcome,
+    pub fields: ExtendedVlanTunnel,
+}
+
+#[unsafe(no_mangle)]
+pub extern "C" fn latchplume_read_extended_vlan_tunnel(
+    s: &[u8],
+    d: &Words,
+) -> ExtendedVlanTunnelReading
+    ensures { answer_of result.outcome (extended_vlan_tunnel result.fields) ≡ read_at memo 2 1012 s.now d.now }
+{
+    let Reading { outcome, fields } = host::extended::latchplume_read_extended_vlan_tunnel(s, d);
+    ExtendedVlanTunnelReading { outcome, fields }
 }

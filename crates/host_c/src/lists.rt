@@ -8,6 +8,8 @@ ghost use Rattle.fields.specs.Shown.{listed};
 
 use fields::lists::Listed;
 use layout::lists::Segment;
+use layout::record::Reading;
+use xdr::Outcome;
 
 #[unsafe(no_mangle)]
 pub extern "C" fn latchplume_list_word(s: &[u8], start: usize, count: usize, index: usize) -> Listed
@@ -16,9 +18,18 @@ pub extern "C" fn latchplume_list_word(s: &[u8], start: usize, count: usize, ind
     host::lists::latchplume_list_word(s, start, count, index)
 }
 
+// What C gets of a reading of Segment.
+#[repr(C)]
+#[derive(Clone, Copy)]
+pub struct SegmentReading {
+    pub outcome: Outcome,
+    pub fields: Segment,
+}
+
 #[unsafe(no_mangle)]
-pub extern "C" fn latchplume_next_segment(s: &[u8], at: usize) -> Segment
-    ensures { answer_of result.outcome (a_segment result) ≡ segment_at s.now at }
+pub extern "C" fn latchplume_next_segment(s: &[u8], at: usize) -> SegmentReading
+    ensures { answer_of result.outcome (a_segment result.fields) ≡ segment_at s.now at }
 {
-    host::lists::latchplume_next_segment(s, at)
+    let Reading { outcome, fields } = host::lists::latchplume_next_segment(s, at);
+    SegmentReading { outcome, fields }
 }

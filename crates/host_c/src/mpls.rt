@@ -10,38 +10,91 @@ use fields::descriptor::Words;
 use flow_layouts::mpls::{
     ExtendedMpls, ExtendedMplsFec, ExtendedMplsLvpFec, ExtendedMplsTunnel, ExtendedMplsVc,
 };
+use layout::record::Reading;
+use xdr::Outcome;
 
-#[unsafe(no_mangle)]
-pub extern "C" fn latchplume_read_extended_mpls(s: &[u8], d: &Words) -> ExtendedMpls
-    ensures { answer_of result.outcome (extended_mpls result) ≡ read_at memo 2 1006 s.now d.now }
-{
-    host::mpls::latchplume_read_extended_mpls(s, d)
+// What C gets of a reading of ExtendedMpls.
+#[repr(C)]
+#[derive(Clone, Copy)]
+pub struct ExtendedMplsReading {
+    pub outcome: Outcome,
+    pub fields: ExtendedMpls,
 }
 
 #[unsafe(no_mangle)]
-pub extern "C" fn latchplume_read_extended_mpls_tunnel(s: &[u8], d: &Words) -> ExtendedMplsTunnel
-    ensures { answer_of result.outcome (extended_mpls_tunnel result) ≡ read_at memo 2 1008 s.now d.now }
+pub extern "C" fn latchplume_read_extended_mpls(s: &[u8], d: &Words) -> ExtendedMplsReading
+    ensures { answer_of result.outcome (extended_mpls result.fields) ≡ read_at memo 2 1006 s.now d.now }
 {
-    host::mpls::latchplume_read_extended_mpls_tunnel(s, d)
+    let Reading { outcome, fields } = host::mpls::latchplume_read_extended_mpls(s, d);
+    ExtendedMplsReading { outcome, fields }
+}
+
+// What C gets of a reading of ExtendedMplsTunnel.
+#[repr(C)]
+#[derive(Clone, Copy)]
+pub struct ExtendedMplsTunnelReading {
+    pub outcome: Outcome,
+    pub fields: ExtendedMplsTunnel,
 }
 
 #[unsafe(no_mangle)]
-pub extern "C" fn latchplume_read_extended_mpls_vc(s: &[u8], d: &Words) -> ExtendedMplsVc
-    ensures { answer_of result.outcome (extended_mpls_vc result) ≡ read_at memo 2 1009 s.now d.now }
+pub extern "C" fn latchplume_read_extended_mpls_tunnel(
+    s: &[u8],
+    d: &Words,
+) -> ExtendedMplsTunnelReading
+    ensures { answer_of result.outcome (extended_mpls_tunnel result.fields) ≡ read_at memo 2 1008 s.now d.now }
 {
-    host::mpls::latchplume_read_extended_mpls_vc(s, d)
+    let Reading { outcome, fields } = host::mpls::latchplume_read_extended_mpls_tunnel(s, d);
+    ExtendedMplsTunnelReading { outcome, fields }
+}
+
+// What C gets of a reading of ExtendedMplsVc.
+#[repr(C)]
+#[derive(Clone, Copy)]
+pub struct ExtendedMplsVcReading {
+    pub outcome: Outcome,
+    pub fields: ExtendedMplsVc,
 }
 
 #[unsafe(no_mangle)]
-pub extern "C" fn latchplume_read_extended_mpls_fec(s: &[u8], d: &Words) -> ExtendedMplsFec
-    ensures { answer_of result.outcome (extended_mpls_fec result) ≡ read_at memo 2 1010 s.now d.now }
+pub extern "C" fn latchplume_read_extended_mpls_vc(s: &[u8], d: &Words) -> ExtendedMplsVcReading
+    ensures { answer_of result.outcome (extended_mpls_vc result.fields) ≡ read_at memo 2 1009 s.now d.now }
 {
-    host::mpls::latchplume_read_extended_mpls_fec(s, d)
+    let Reading { outcome, fields } = host::mpls::latchplume_read_extended_mpls_vc(s, d);
+    ExtendedMplsVcReading { outcome, fields }
+}
+
+// What C gets of a reading of ExtendedMplsFec.
+#[repr(C)]
+#[derive(Clone, Copy)]
+pub struct ExtendedMplsFecReading {
+    pub outcome: Outcome,
+    pub fields: ExtendedMplsFec,
 }
 
 #[unsafe(no_mangle)]
-pub extern "C" fn latchplume_read_extended_mpls_lvp_fec(s: &[u8], d: &Words) -> ExtendedMplsLvpFec
-    ensures { answer_of result.outcome (extended_mpls_lvp_fec result) ≡ read_at memo 2 1011 s.now d.now }
+pub extern "C" fn latchplume_read_extended_mpls_fec(s: &[u8], d: &Words) -> ExtendedMplsFecReading
+    ensures { answer_of result.outcome (extended_mpls_fec result.fields) ≡ read_at memo 2 1010 s.now d.now }
 {
-    host::mpls::latchplume_read_extended_mpls_lvp_fec(s, d)
+    let Reading { outcome, fields } = host::mpls::latchplume_read_extended_mpls_fec(s, d);
+    ExtendedMplsFecReading { outcome, fields }
+}
+
+// What C gets of a reading of ExtendedMplsLvpFec.
+#[repr(C)]
+#[derive(Clone, Copy)]
+pub struct ExtendedMplsLvpFecReading {
+    pub outcome: Outcome,
+    pub fields: ExtendedMplsLvpFec,
+}
+
+#[unsafe(no_mangle)]
+pub extern "C" fn latchplume_read_extended_mpls_lvp_fec(
+    s: &[u8],
+    d: &Words,
+) -> ExtendedMplsLvpFecReading
+    ensures { answer_of result.outcome (extended_mpls_lvp_fec result.fields) ≡ read_at memo 2 1011 s.now d.now }
+{
+    let Reading { outcome, fields } = host::mpls::latchplume_read_extended_mpls_lvp_fec(s, d);
+    ExtendedMplsLvpFecReading { outcome, fields }
 }

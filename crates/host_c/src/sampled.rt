@@ -8,31 +8,69 @@ ghost use Rattle.fields.specs.Shown.{read_at};
 
 use fields::descriptor::Words;
 use flow_layouts::sampled::{SampledEthernet, SampledHeader, SampledIpv4, SampledIpv6};
+use layout::record::Reading;
+use xdr::Outcome;
 
-#[unsafe(no_mangle)]
-pub extern "C" fn latchplume_read_sampled_header(s: &[u8], d: &Words) -> SampledHeader
-    ensures { answer_of result.outcome (sampled_header result) ≡ read_at memo 2 1 s.now d.now }
-{
-    host::sampled::latchplume_read_sampled_header(s, d)
+// What C gets of a reading of SampledHeader.
+#[repr(C)]
+#[derive(Clone, Copy)]
+pub struct SampledHeaderReading {
+    pub outcome: Outcome,
+    pub fields: SampledHeader,
 }
 
 #[unsafe(no_mangle)]
-pub extern "C" fn latchplume_read_sampled_ethernet(s: &[u8], d: &Words) -> SampledEthernet
-    ensures { answer_of result.outcome (sampled_ethernet result) ≡ read_at memo 2 2 s.now d.now }
+pub extern "C" fn latchplume_read_sampled_header(s: &[u8], d: &Words) -> SampledHeaderReading
+    ensures { answer_of result.outcome (sampled_header result.fields) ≡ read_at memo 2 1 s.now d.now }
 {
-    host::sampled::latchplume_read_sampled_ethernet(s, d)
+    let Reading { outcome, fields } = host::sampled::latchplume_read_sampled_header(s, d);
+    SampledHeaderReading { outcome, fields }
+}
+
+// What C gets of a reading of SampledEthernet.
+#[repr(C)]
+#[derive(Clone, Copy)]
+pub struct SampledEthernetReading {
+    pub outcome: Outcome,
+    pub fields: SampledEthernet,
 }
 
 #[unsafe(no_mangle)]
-pub extern "C" fn latchplume_read_sampled_ipv4(s: &[u8], d: &Words) -> SampledIpv4
-    ensures { answer_of result.outcome (sampled_ipv4 result) ≡ read_at memo 2 3 s.now d.now }
+pub extern "C" fn latchplume_read_sampled_ethernet(s: &[u8], d: &Words) -> SampledEthernetReading
+    ensures { answer_of result.outcome (sampled_ethernet result.fields) ≡ read_at memo 2 2 s.now d.now }
 {
-    host::sampled::latchplume_read_sampled_ipv4(s, d)
+    let Reading { outcome, fields } = host::sampled::latchplume_read_sampled_ethernet(s, d);
+    SampledEthernetReading { outcome, fields }
+}
+
+// What C gets of a reading of SampledIpv4.
+#[repr(C)]
+#[derive(Clone, Copy)]
+pub struct SampledIpv4Reading {
+    pub outcome: Outcome,
+    pub fields: SampledIpv4,
 }
 
 #[unsafe(no_mangle)]
-pub extern "C" fn latchplume_read_sampled_ipv6(s: &[u8], d: &Words) -> SampledIpv6
-    ensures { answer_of result.outcome (sampled_ipv6 result) ≡ read_at memo 2 4 s.now d.now }
+pub extern "C" fn latchplume_read_sampled_ipv4(s: &[u8], d: &Words) -> SampledIpv4Reading
+    ensures { answer_of result.outcome (sampled_ipv4 result.fields) ≡ read_at memo 2 3 s.now d.now }
 {
-    host::sampled::latchplume_read_sampled_ipv6(s, d)
+    let Reading { outcome, fields } = host::sampled::latchplume_read_sampled_ipv4(s, d);
+    SampledIpv4Reading { outcome, fields }
+}
+
+// What C gets of a reading of SampledIpv6.
+#[repr(C)]
+#[derive(Clone, Copy)]
+pub struct SampledIpv6Reading {
+    pub outcome: Outcome,
+    pub fields: SampledIpv6,
+}
+
+#[unsafe(no_mangle)]
+pub extern "C" fn latchplume_read_sampled_ipv6(s: &[u8], d: &Words) -> SampledIpv6Reading
+    ensures { answer_of result.outcome (sampled_ipv6 result.fields) ≡ read_at memo 2 4 s.now d.now }
+{
+    let Reading { outcome, fields } = host::sampled::latchplume_read_sampled_ipv6(s, d);
+    SampledIpv6Reading { outcome, fields }
 }

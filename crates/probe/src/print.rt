@@ -1,12 +1,7 @@
 // What the lines are made of.
 use printing::Hex;
 use std::io;
-use xdr::{Cursor, Outcome};
-
-// A number with its sign, behind its name.
-pub fn integer(rt: &impl Print, name: &[u8], z: i32) -> io::Result<()> {
-    printing::number(rt, name, z)
-}
+use xdr::{Cursor, Outcome, Refusal};
 
 // Bytes in hexadecimal, and a dash where there are none.
 pub fn octets(rt: &impl Print, s: &[u8]) -> io::Result<()> {
@@ -24,7 +19,7 @@ pub fn stands(rt: &impl Print, c: Cursor) -> io::Result<()> {
 }
 
 // The end of a line: why nothing was read.
-pub fn refusal(rt: &impl Print, r: Outcome) -> io::Result<()> {
-    let Outcome { code, at, steps } = r;
+pub fn refusal(rt: &impl Print, x: Refusal) -> io::Result<()> {
+    let Outcome { code, at, steps } = x.into();
     println!(rt; " code={code} at={at} steps={steps}")
 }

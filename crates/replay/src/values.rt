@@ -1,35 +1,87 @@
-// How the fields of a descriptor are printed: the outcome, and each value behind a space.
+// How the fields of a descriptor are printed: the outcome of their reading, and each value behind a space.
+use layout::record::Reading;
+use numbers::{DataSource, Interface};
 use printing::Hex;
+use samples::kinds::{DataSourceExpanded, InterfaceExpanded};
 use std::io;
 use xdr::{Address, Outcome, Span};
 
-// A new descriptor: the code, the position and the steps of its field reading.
-pub fn outcome(rt: &impl Print, o: Outcome) -> io::Result<()> {
-    let Outcome { code, at, steps } = o;
-    print!(rt; "; {code},{at},{steps}")
+// A field, or the fields of a record.
+pub trait Shown: Copy {
+    fn show(self, rt: &impl Print) -> io::Result<()>;
 }
 
-// The callers name a value's width as the memo does, so there is a function for each.
-pub fn word(rt: &impl Print, w: u32) -> io::Result<()> {
-    print!(rt; " {w}")
+// Fields of a record by their names, one behind another.
+macro_rules! show_each {
+    ($rt:expr, $record:expr; $($field:ident),+) => {{
+        $($record.$field.show($rt)?;)+
+        Ok(())
+    }};
 }
 
-pub fn long(rt: &impl Print, w: u64) -> io::Result<()> {
-    print!(rt; " {w}")
+pub(crate) use show_each;
+
+impl Shown for u32 {
+    fn show(self, rt: &impl Print) -> io::Result<()> {
+        print!(rt; " {self}")
+    }
+}
+
+impl Shown for u64 {
+    fn show(self, rt: &impl Print) -> io::Result<()> {
+        print!(rt; " {self}")
+    }
 }
 
 // A start and a count.
-pub fn span(rt: &impl Print, x: Span) -> io::Result<()> {
-    let Span { start, count } = x;
-    print!(rt; " {start}+{count}")
+impl Shown for Span {
+    fn show(self, rt: &impl Print) -> io::Result<()> {
+        let Span { start, count } = self;
+        print!(rt; " {start}+{count}")
+    }
 }
 
-pub fn octets(rt: &impl Print, s: &[u8]) -> io::Result<()> {
-    print!(rt; " {}", Hex(s))
+impl<const N: usize> Shown for [u8; N] {
+    fn show(self, rt: &impl Print) -> io::Result<()> {
+        print!(rt; " {}", Hex(&self))
+    }
 }
 
 // A type, and sixteen bytes in hexadecimal.
-pub fn address(rt: &impl Print, a: Address) -> io::Result<()> {
-    let Address { kind, bytes } = a;
-    print!(rt; " {kind}/{}", Hex(&bytes))
+impl Shown for Address {
+    fn show(self, rt: &impl Print) -> io::Result<()> {
+        let Address { kind, bytes } = self;
+        print!(rt; " {kind}/{}", Hex(&bytes))
+    }
+}
+
+impl Shown for DataSource {
+    fn show(self, rt: &impl Print) -> io::Result<()> {
+        self.0.show(rt)
+    }
+}
+
+impl Shown for Interface {
+    fn show(self, rt: &impl Print) -> io::Result<()> {
+        self.0.show(rt)
+    }
+}
+
+impl Shown for DataSourceExpanded {
+    fn show(self, rt: &impl Print) -> io::Result<()> {
+        show_each!(rt, self; source_id_type, source_id_index)
+    }
+}
+
+impl Shown for InterfaceExpanded {
+    fn show(self, rt: &impl Print) -> io::Result<()> {
+        show_each!(rt, self; format, value)
+    }
+}
+
+// A new descriptor: the code, the position and the steps of its field reading, and the fields.
+pub fn reading<T: Shown>(rt: &impl Print, r: Reading<T>) -> io::Result<()> {
+    let Outcome { code, at, steps } = r.outcome;
+    print!(rt; "; {code},{at},{steps}")?;
+    r.fields.show(rt)
 }
