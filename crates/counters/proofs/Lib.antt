@@ -1,3 +1,1 @@
-pub mod Formats
 pub mod Passing
-pub mod Reading

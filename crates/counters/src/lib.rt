@@ -2,5 +2,3 @@
 #![tactic(auto)]
 
 pub mod data;
-pub mod polled;
-pub mod widths;

@@ -2,17 +2,18 @@
 use Rattle.std.proofs.Common.{ℕ, zero, suc, ◌+◌, ◌-◌, ◌≡◌, ◌≤◌, ◌<◌, refl, sym, ap, ◌∙◌, List, length, take, arith, length-take-le}
 use native.Mathlib.Numerals.{sub-one}
 use Rattle.reading.specs.Sizes.{longest_input}
-use Rattle.reading.specs.Bytes.{padded}
-use Rattle.reading.specs.Script.{number, Found, nothing, word, Script}
-use Rattle.reading.specs.Cursor.{Place, Out, got, stop, read_item, times, follow}
+use Rattle.reading.specs.Script.{Span, Value, number, Found, nothing, word, Script, give}
+use Rattle.reading.specs.Cursor.{Place, Out, got, stop, read_item, held_to, times, follow}
+use Rattle.reading.specs.Layout.{Field, fields, framed}
 use Rattle.reading.specs.Answer.{size}
 use Rattle.reading.proofs.Items.{never, word_seen}
-use Rattle.reading.proofs.Counts.{counted, turn_got, turn_stop, turns_done, framing, frame_at}
+use Rattle.reading.proofs.Counts.{counted, turn_got, turn_stop, turns_done, resumed, framing, frame_at, frame_held}
+use Rattle.reading.proofs.Fields.{fields_out, fields_then}
 use Rattle.reading.proofs.Framed.{FramedAt, framing_lies}
 use Rattle.reading.proofs.Bounds.{Owes, owes}
 use Rattle.reading.proofs.Room.{Thrifty}
 use Rattle.xdr.specs.declared.Cursor.{Cursor}
-use Rattle.xdr.specs.Shown.{Inside, place, resumed}
+use Rattle.xdr.specs.Shown.{Inside, place}
 use Rattle.layout.specs.declared.frames.Frame.{Frame}
 use Rattle.layout.specs.Scanned.{Scan}
 use Rattle.layout.specs.Shown.{a_frame, first_of}
@@ -82,3 +83,22 @@ module _ (s : List ℕ) (c : Cursor) {r : Frame} {d : Cursor} (e : got (a_frame 
       let y = lies in
       let z = length-take-le (r.payload.start + r.payload.count) s frame_ends in
       record { inside = omega arith; counted = omega (arith, y.start, y.steps, g.counted); few = omega (arith, y.start, g.few); short = omega (arith, g.short) }
+
+-- ---- what a frame holds, on top of its own descriptor
+module _ (kind depth : ℕ) (body : ℕ → Script) (s : List ℕ) (p : Place) (k : ℕ) {f : ℕ} {x : Span} {q : Place} (e : got (framing f x) q ≡ frame_at s p) where
+  pub held_stop : {c a n : ℕ} → stop c a n ≡ counted (k + 1) (follow (body f) (held_to x s) (record { at = x.start; steps = q.steps })) → stop c a n ≡ counted k (follow (framed kind depth body) s p)
+  unfolding resumed
+  held_stop h = rw (← h) at (sym (frame_held kind depth body s p k e))
+
+  pub held_got : {j : ℕ} {r : Place} → got j r ≡ counted (k + 1) (follow (body f) (held_to x s) (record { at = x.start; steps = q.steps })) → got j (record { at = q.at; steps = r.steps }) ≡ counted k (follow (framed kind depth body) s p)
+  unfolding resumed
+  held_got h = rw (← h) at (sym (frame_held kind depth body s p k e))
+
+-- ---- a row of fields
+module _ (l : List Field) (s : List ℕ) (c : Cursor) (k : ℕ) (g : Scan s c k) where
+  pub scan_row : {vs : List Value} {d : Cursor} → fields_out l s (place c) ≡ got vs (place d) → Scan s d k
+  unfolding Owes follow
+  scan_row {vs} {d} e =
+      let h : follow (fields l (λ us. give nothing)) s (place c) ≡ got nothing (place d) = fields_then l _ s (place c) ∙ rw e in
+      let o = rw h at (owes (fields l (λ us. give nothing)) s (place c) g.inside) in
+      record { inside = omega (arith, o.1); counted = omega (arith, o.0, o.2, g.counted); few = omega (arith, o.0, g.few); short = g.short }

@@ -1,3 +1,2 @@
-pub mod Formats
-pub mod Sampling
 pub mod Placed
+pub mod Sampling

@@ -1,5 +1,5 @@
 -- The second pass over samples: a law for each need of its functions, with the facts that the code has there. Assumes nothing.
-use Prim.Native.Nat.{ℕ, ◌+◌, ◌*◌, ◌-◌, ◌≤◌, ◌<◌}
+use Prim.Native.Nat.{ℕ, zero, suc, ◌+◌, ◌*◌, ◌-◌, ◌≤◌, ◌<◌}
 use mathlib.Core.Path.{◌≡◌, refl, sym, ap, ◌∙◌}
 use mathlib.Core.List.{List}
 use native.Mathlib.Omega.{arith}
@@ -11,7 +11,7 @@ use Rattle.reading.specs.Script.{Found, Script}
 use Rattle.reading.specs.Cursor.{Out, times, follow}
 use Rattle.reading.specs.Layout.{base as base_mode, words, last_number, opened, fixed_rows, flows, pdu, flow, counters, counter, samples, sample}
 use Rattle.reading.specs.Answer.{size, from}
-use Rattle.reading.proofs.Words.{numbers, row_got}
+use Rattle.reading.proofs.Words.{numbers, last_word, row_got}
 use Rattle.reading.proofs.Places.{Accepted, ranges_of, EachAt, each_lies, words_lie}
 use Rattle.reading.proofs.Flat.{fixed_bare}
 use Rattle.store.specs.declared.Pen.{Pen}
@@ -24,7 +24,17 @@ use Rattle.store.proofs.Placing.{a_put, word_is, store_is}
 use Rattle.samples.specs.declared.kinds.SampleKind.{SampleKind}
 use Rattle.samples.specs.declared.kinds.SampleKind.TheVariants as kind
 use Rattle.samples.specs.Held.{counted_by_last, held, words_of, IsKind}
-use Rattle.samples.proofs.Sampling.{flows_words, counters_words, last_of}
+
+pub flows_words : {r : SampleKind} {n : ℕ} → r ≡ kind.Flows n → words_of r ≡ n
+flows_words e = rw e
+
+pub counters_words : {r : SampleKind} {n : ℕ} → r ≡ kind.Counters n → words_of r ≡ n
+counters_words e = rw e
+
+-- the last of n words, where there is one
+last_of : (n : ℕ) (s : List ℕ) (at : ℕ) → 1 ≤ n → last_number (numbers n s at) ≡ be4 s (at + (4 * n - 4))
+last_of zero s at h = absurd (omega arith)
+last_of (suc n) s at h = let z : 4 * n ≡ 4 * suc n - 4 = omega arith in last_word n s at ∙ ap (λ (j : ℕ). be4 s (at + j)) z
 
 -- ---- a counter record, which holds nothing of its own
 module _ (s l : List ℕ) (at base parent word n : ℕ) (g : Ready s l (a_pen base parent word) (times n (follow counter) s (from at))) (z : 0 < n) where

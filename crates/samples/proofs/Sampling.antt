@@ -1,246 +1,97 @@
--- The first pass over samples: a law for each way out of its functions, with the facts that the code has there. Assumes nothing.
-use Prim.Native.Nat.{ℕ, zero, suc, ◌+◌, ◌*◌, ◌-◌, ◌^◌, ◌≤◌, ◌<◌}
-use mathlib.Core.Path.{◌≡◌, refl, sym, ap, ◌∙◌}
-use mathlib.Core.List.{List, [], ◌∷◌, ◌++◌}
-use native.Mathlib.Omega.{arith}
-use native.Mathlib.Nat.{suc-add}
-use borrow.Author.Rules.{rules}
-use lib.ListN.{length, take}
-use mir.Syntax.{w64}
-use mir.Val.{Fits}
+-- The first pass over samples: a law for each way out of its functions. Assumes nothing.
+use Rattle.std.proofs.Common.{ℕ, zero, suc, ◌+◌, ◌*◌, ◌-◌, ◌≡◌, ◌≤◌, refl, sym, ap, ◌∙◌, List, length, arith}
 use Rattle.reading.specs.Sizes.{depth_limit}
-use Rattle.reading.specs.Script.{Value, word, Script, give, repeat}
-use Rattle.reading.specs.Cursor.{Out, got, times, follow}
 use Rattle.reading.specs.Bytes.{be4}
-use Rattle.reading.specs.Layout.{Mode, Field, plain, fields, words, widths, total, fixed_rows, counters, last_number, opened, framed, flow, counter, samples, sample}
+use Rattle.reading.specs.Script.{Value, nothing, Script, give, repeat}
+use Rattle.reading.specs.Cursor.{Place, Out, got, stop, then, times, follow}
+use Rattle.reading.specs.Layout.{Mode, any_word, words, fields, last_number, opened, fixed_rows, counters, counter, flow, samples, sample}
+use Rattle.reading.proofs.Items.{never}
+use Rattle.reading.proofs.Counts.{counted, counted_none, counted_stop, fields_stop, each_held, turns_done}
 use Rattle.reading.proofs.Fields.{fields_out}
-use Rattle.reading.proofs.Words.{numbers, last_word}
-use Rattle.reading.proofs.Counts.{counted, counted_stop, counted_none, resumed, frame_at, frame_stop, frame_held, fields_stop, each_held}
 use Rattle.reading.proofs.Room.{thrifty_counter, thrifty_sample}
+use Rattle.reading.proofs.Words.{numbers, last_word, row_got, run_row, run_cut}
 use Rattle.xdr.specs.declared.Cursor.{Cursor}
-use Rattle.xdr.specs.declared.Outcome.{Outcome}
-use Rattle.xdr.specs.declared.Span.{Span}
-use Rattle.xdr.specs.declared.Passed.{Passed}
-use Rattle.xdr.specs.declared.Passed.TheVariants as passed
-use Rattle.xdr.specs.Shown.{place, Inside, refusal}
-use Rattle.xdr.proofs.Rows.{row_forward}
-use Rattle.layout.specs.declared.frames.Frame.{Frame}
-use Rattle.layout.specs.declared.frames.Frame.TheVariants as frame
-use Rattle.layout.specs.declared.frames.Scanned.{Scanned}
-use Rattle.layout.specs.declared.frames.Scanned.TheVariants as scanned
-use Rattle.flows.specs.declared.scan_ahead.Ahead.{Ahead}
-use Rattle.layout.specs.Scanned.{Scan, frame_out, scanned_out}
-use Rattle.flows.specs.Passing.{AheadOf}
-use Rattle.layout.specs.Chain.{Then, goes, halts, Ends, ends, There}
-use Rattle.layout.proofs.Chain.{both, within_start, within_ends}
-use Rattle.layout.proofs.Scan.{scan_inside, scan_short, Thrift, scan_on, scan_done, scan_turn, scan_stop, frame_ends, frame_fits, frame_part, frame_counts, frame_scan}
-use Rattle.counters.specs.Sizes.{sizes_of}
-use Rattle.counters.proofs.Passing.{all_steps, all_opened, cut_opened, cut_short}
+use Rattle.xdr.specs.Shown.{Inside, place}
+use Rattle.layout.specs.Scanned.{Scan}
+use Rattle.layout.proofs.Scan.{Thrift, scan_row}
+use Rattle.samples.specs.Held.{IsKind, counted_by_last, held, last_of}
 use Rattle.samples.specs.declared.kinds.SampleKind.{SampleKind}
 use Rattle.samples.specs.declared.kinds.SampleKind.TheVariants as kind
-use Rattle.samples.specs.Held.{counted_by_last, held, words_of, IsKind, Counted, on, over, HasLast, rest_of}
 
 pub counter_thrift : Thrift counter
 counter_thrift = record { is = thrifty_counter }
 
-pub sample_thrift : (mode : Mode) (limit : ℕ) → Thrift (sample mode limit)
-sample_thrift mode limit = record { is = thrifty_sample mode limit }
+pub sample_thrift : (mode : Mode) → Thrift (sample mode depth_limit)
+sample_thrift mode = record { is = thrifty_sample mode depth_limit }
 
--- ---- a frame of any kind
-module _ (kind depth : ℕ) (body : ℕ → Script) (s : List ℕ) (c : Cursor) (k : ℕ) {r : Frame} (e : frame_out r ≡ frame_at s (place c)) where
-  pub held_cut : {x : Outcome} → r ≡ frame.Stop x → refusal x ≡ counted k (follow (framed kind depth body) s (place c))
-  held_cut h = frame_stop kind depth body s (place c) k (rw h at e)
+-- ---- a counter record's payload, which has no descriptor more
+module _ (f : ℕ) (s : List ℕ) (p : Place) (k : ℕ) where
+  pub counter_stop : {c a n : ℕ} → stop c a n ≡ follow (opened (fixed_rows counters) f) s p → stop c a n ≡ counted k (follow (opened (fixed_rows counters) f) s p)
+  counter_stop e = counted_stop k _ e
 
-  module _ {f : ℕ} {x : Span} {d : Cursor} (h : r ≡ frame.Got f x d) (m : Scanned)
-      (i : scanned_out m ≡ counted (k + 1) (follow (body f) (take (x.start + x.count) s) (place (record { at = x.start; steps = d.steps })))) where
-    pub held_on : {o : Out ℕ} → o ≡ resumed d.at (scanned_out m) → o ≡ counted k (follow (framed kind depth body) s (place c))
-    held_on q = q ∙ ap (resumed d.at) i ∙ sym (frame_held kind depth body s (place c) k (rw h at e))
+  pub counter_got : {q : Place} → got nothing q ≡ follow (opened (fixed_rows counters) f) s p → got k q ≡ counted k (follow (opened (fixed_rows counters) f) s p)
+  counter_got e = counted_none k _ e
 
--- on behind a frame
-module _ (end : ℕ) {m : Scanned} where
-  pub resumed_stop : {x : Outcome} → m ≡ scanned.Stop x → refusal x ≡ resumed end (scanned_out m)
-  unfolding resumed
-  resumed_stop e = rw e
+-- ---- the words before a sample's records
+module _ (n : ℕ) (s : List ℕ) (c : Cursor) (i : Inside s c) where
+  pub last_cut : {x a m : ℕ} → stop x a m ≡ times n (follow any_word) s (place c) → stop x a m ≡ last_of n s (place c)
+  last_cut e = sym (rw (run_cut s n (place c) i.inside e))
 
-  pub resumed_got : {d : Cursor} {j : ℕ} → m ≡ scanned.Got d j → got j (place (record { at = end; steps = d.steps })) ≡ resumed end (scanned_out m)
-  unfolding resumed
-  resumed_got e = rw e
+  module _ {d : Cursor} (e : got nothing (place d) ≡ times n (follow any_word) s (place c)) where
+    pub last_fits : c.at + 4 * n ≤ length s
+    last_fits = (run_row s n (place c) i.inside e).0
 
--- ---- what a counter record holds
-module _ (f : ℕ) (s : List ℕ) (c : Cursor) (k : ℕ) where
-  pub data_cut : {x : Outcome} → fields_out (widths (sizes_of f)) s (place c) ≡ refusal x → refusal x ≡ counted k (follow (opened (fixed_rows counters) f) s (place c))
-  data_cut e = counted_stop k _ (cut_opened s f c e)
+    pub last_ends : d.at ≡ c.at + 4 * n
+    last_ends =
+        let h : got (numbers n s c.at) (place d) ≡ got (numbers n s c.at) (record { at = c.at + 4 * n; steps = c.steps + n }) = sym (run_row s n (place c) i.inside e).1 ∙ row_got s n (place c) last_fits in
+        let z : place d ≡ record { at = c.at + 4 * n; steps = c.steps + n } = cc in
+        ap (λ (p : Place). p.at) z
 
-  module _ {n m : ℕ} (e : n ≡ total (sizes_of f)) (g : m ≡ length (sizes_of f)) (i : Inside s c) (h : n ≤ length s - c.at) where
-    pub data_all : got k (place (record { at = c.at + n; steps = c.steps + m })) ≡ counted k (follow (opened (fixed_rows counters) f) s (place c))
-    data_all = counted_none k _ (all_opened s f e g i h)
-
--- ---- what stands behind the fields
-module _ (body : Script) (s : List ℕ) (n k : ℕ) where
-  pub behind_cut : {p : Passed} {x : Outcome} → p ≡ passed.Stop x → refusal x ≡ rest_of body s p n k
-  unfolding rest_of
-  behind_cut h = rw h
-
-  pub behind_got : {p : Passed} {d : Cursor} {o : Out ℕ} → p ≡ passed.Got d → o ≡ counted k (times n (follow body) s (place d)) → o ≡ rest_of body s p n k
-  unfolding rest_of
-  behind_got h q = rw h q
-
--- their count is known by another name
-pub behind_last : (body : Script) (s : List ℕ) (k : ℕ) {n m : ℕ} {p : Passed} {d : Cursor} {o : Out ℕ} → p ≡ passed.Got d → n ≡ m → o ≡ counted k (times n (follow body) s (place d)) → o ≡ rest_of body s p m k
-unfolding rest_of
-behind_last body s k h e q = rw (h, ← e) q
-
-pub counted_scan : {s : List ℕ} {p : Passed} {k : ℕ} {d : Cursor} → Counted s p k → p ≡ passed.Got d → Scan s d k
-counted_scan {s} {p} {k} {d} g h = go (rw h at g)
-  where
-    go : {c : Cursor} → Counted s (passed.Got c) k → Scan s c k
-    go (on i) = i
-
--- the fields were read or refused inside
-pub fields_counted : {vs : List Value} {p : Passed} (l : List Field) (s : List ℕ) (c : Cursor) (k : ℕ) → Then l s (passed.Got c) p vs → Scan s c k → Counted s p k
-fields_counted l s c k (goes {e = d} e i) g =
-    let f : c.at ≤ d.at = row_forward l s c (record { gives = e }) g.inside in
-    on {k = k} (record { inside = i.inside; counted = i.counted; few = omega (arith, g.few); short = g.short })
-fields_counted l s c k (halts e) g = over
-
--- the same in two parts
-pub rows_counted : {ws : List Value} {q p : Passed} (l m : List Field) (s : List ℕ) (c : Cursor) (k : ℕ) → Ends l s (passed.Got c) q → Then m s q p ws → Scan s c k → Counted s p k
-rows_counted l m s c k (ends t) u g = fields_counted (l ++ m) s c k (both t u) g
+    pub last_got : 1 ≤ n → got (be4 s (d.at - 4)) (place d) ≡ last_of n s (place c)
+    last_got l = sym (rw (run_row s n (place c) i.inside e).1 (ap (λ (m : ℕ). got m (place d)) (go n l last_ends)))
+      where
+        go : (n : ℕ) → 1 ≤ n → d.at ≡ c.at + 4 * n → last_number (numbers n s c.at) ≡ be4 s (d.at - 4)
+        go zero l z = absurd (omega arith)
+        go (suc n) l z = let y : c.at + 4 * n ≡ d.at - 4 = omega arith in last_word n s c.at ∙ ap (λ (j : ℕ). be4 s j) y
 
 -- ---- what a sample holds, by its kind
-pub flows_words : {r : SampleKind} {n : ℕ} → r ≡ kind.Flows n → words_of r ≡ n
-flows_words e = rw e
+module _ (mode : Mode) {r : SampleKind} {f : ℕ} (q : IsKind r f) (s : List ℕ) (p : Place) (k : ℕ) where
+  of_kind : {b : SampleKind} → r ≡ b → follow (held mode b) s p ≡ follow (opened (samples mode depth_limit) f) s p
+  of_kind e = ap (λ (x : Script). follow x s p) (sym (q.is mode ∙ ap (held mode) e))
 
-pub counters_words : {r : SampleKind} {n : ℕ} → r ≡ kind.Counters n → words_of r ≡ n
-counters_words e = rw e
+  module _ {b : SampleKind} (e : r ≡ b) (n : ℕ) (body : Script) (h : held mode b ≡ counted_by_last n body) where
+    is : counted k (follow (counted_by_last n body) s p) ≡ counted k (follow (opened (samples mode depth_limit) f) s p)
+    is = ap (λ (x : Script). counted k (follow x s p)) (sym h) ∙ ap (counted k) (of_kind e)
 
--- its words, of which the last counts what follows
-module _ {r : SampleKind} {f : ℕ} (q : IsKind r f) {n : ℕ} (e : words_of r ≡ n) where
-  pub kind_sub : 4 ≤ 4 * n
-  kind_sub = omega (arith, q.some)
+    pub rows_stop : {c a m : ℕ} → stop c a m ≡ last_of n s p → stop c a m ≡ counted k (follow (opened (samples mode depth_limit) f) s p)
+    rows_stop {c} {a} {m} w = go (fields_out (words n) s p) refl w ∙ is
+      where
+        go : (o : Out (List Value)) → fields_out (words n) s p ≡ o → stop c a m ≡ then o (λ vs q. got (last_number vs) q) → stop c a m ≡ counted k (follow (counted_by_last n body) s p)
+        go (got vs r) y z = never z
+        go (stop c' a' m') y z = z ∙ fields_stop (words n) s p k _ y
 
-  pub has_last : {s : List ℕ} {p : Passed} {at : ℕ} → There n s p at → HasLast s p at (4 * n - 4)
-  has_last t = record { fits = λ w. omega (arith, t.fits w, q.some) }
+    pub rows_held : {m : ℕ} {d : Place} → got m d ≡ last_of n s p → {o : Out ℕ} → o ≡ counted k (times m (follow body) s d) → o ≡ counted k (follow (opened (samples mode depth_limit) f) s p)
+    rows_held {m} {d} w {o} i = i ∙ go (fields_out (words n) s p) refl w ∙ is
+      where
+        go : (o : Out (List Value)) → fields_out (words n) s p ≡ o → got m d ≡ then o (λ vs q. got (last_number vs) q) → counted k (times m (follow body) s d) ≡ counted k (follow (counted_by_last n body) s p)
+        go (got vs r) y z =
+            let u : m ≡ last_number vs = cc in
+            let v : d ≡ r = cc in
+            rw (u, v) (sym (each_held (words n) s p k body y))
+        go (stop c' a' m') y z = never (sym z)
 
-module _ {s : List ℕ} {q : Passed} {at last : ℕ} {d : Cursor} (h : HasLast s q at last) (e : q ≡ passed.Got d) where
-  pub last_there : at + last + 4 ≤ length s
-  last_there = h.fits (record { cursor = d; is = e })
+  pub raw_held : r ≡ kind.Raw → got k p ≡ counted k (follow (opened (samples mode depth_limit) f) s p)
+  unfolding follow
+  raw_held e = counted_none k p (of_kind e)
 
-  pub last_fits : length s < 2 ^ 64 → Fits w64 (at + last)
-  last_fits l = record { fits = omega (arith, last_there) }
-
--- the last of n words, where there is one
-pub last_of : (n : ℕ) (s : List ℕ) (at : ℕ) → 1 ≤ n → last_number (numbers n s at) ≡ be4 s (at + (4 * n - 4))
-last_of zero s at h = absurd (omega arith)
-last_of (suc n) s at h = let z : 4 * n ≡ 4 * suc n - 4 = omega arith in last_word n s at ∙ ap (λ (j : ℕ). be4 s (at + j)) z
-
--- the last of two rows is that of the second
-pub last_behind : (us ws : List Value) → 1 ≤ length ws → last_number (us ++ ws) ≡ last_number ws
-unfolding last_number
-last_behind us [] h = absurd (omega arith)
-last_behind us (w ∷ ws) h = go us
+-- where a sample's records begin
+pub rows_scan : (n : ℕ) (s : List ℕ) (c : Cursor) (k : ℕ) {m : ℕ} {d : Cursor} → Scan s c k → got m (place d) ≡ last_of n s (place c) → Scan s d k
+rows_scan n s c k {m} {d} g w = go (fields_out (words n) s (place c)) refl w
   where
-    go : (us : List Value) → last_number (us ++ w ∷ ws) ≡ last_number (w ∷ ws)
-    go [] = refl
-    go (u ∷ []) = refl
-    go (u ∷ v ∷ us) = go (v ∷ us)
+    go : (o : Out (List Value)) → fields_out (words n) s (place c) ≡ o → got m (place d) ≡ then o (λ vs q. got (last_number vs) q) → Scan s d k
+    go (got vs r) y z = let v : place d ≡ r = cc in scan_row (words n) s c k g (y ∙ ap (λ (t : Place). got vs t) (sym v))
+    go (stop c' a' m') y z = never (sym z)
 
-eight_more : (m : ℕ) → words m ++ words 8 ≡ words (m + 8)
-eight_more zero = refl
-eight_more (suc m) = rw suc-add (ap (λ (l : List Field). plain word ∷ l) (eight_more m))
-
--- no words at all are passed at once
-pub none_before : (n : ℕ) (s : List ℕ) {c : Cursor} → n ≡ 8 → Inside s c → Ends (words (n - 8)) s (passed.Got c) (passed.Got c)
-unfolding fields_out
-none_before n s e i = let z : n - 8 ≡ 0 = omega arith in rw z (ends {vs = []} (goes refl i))
-
-pub flows_eight : {r : SampleKind} {f n : ℕ} → IsKind r f → r ≡ kind.Flows n → 8 ≤ n
-flows_eight q e = rw e at q.eight
-
-pub eight_last : {s : List ℕ} {p : Passed} {at : ℕ} → There 8 s p at → HasLast s p at 28
-eight_last t = record { fits = λ w. omega (arith, t.fits w) }
-
-module _ (mode : Mode) (f : ℕ) (s : List ℕ) (c : Cursor) (k : ℕ) where
-  each : {vs : List Value} {p : Passed} (body : Script) (l : List Field) → Then l s (passed.Got c) p vs → rest_of body s p (last_number vs) k ≡ counted k (follow (fields l (λ us. repeat (last_number us) body (λ a. give a))) s (place c))
-  unfolding rest_of
-  each body l (goes e i) = sym (each_held l s (place c) k body e)
-  each body l (halts e) = fields_stop l s (place c) k _ e
-
-  by_last : (n : ℕ) (body : Script) (at : ℕ) {p : Passed} {o : Out ℕ} → opened (samples mode depth_limit) f ≡ counted_by_last n body → 1 ≤ n → Then (words n) s (passed.Got c) p (numbers n s at) → o ≡ rest_of body s p (be4 s (at + (4 * n - 4))) k
-      → o ≡ counted k (follow (opened (samples mode depth_limit) f) s (place c))
-  by_last n body at {p} r h t q =
-      q ∙ ap (λ (m : ℕ). rest_of body s p m k) (sym (last_of n s at h)) ∙ each body (words n) t ∙ ap (λ (x : Script). counted k (follow x s (place c))) (sym r)
-
-  module _ {r : SampleKind} (q : IsKind r f) where
-    pub flows_arm : {n : ℕ} (at : ℕ) {v p : Passed} {o : Out ℕ} → r ≡ kind.Flows n → Ends (words (n - 8)) s (passed.Got c) v → Then (words 8) s v p (numbers 8 s at) → o ≡ rest_of (flow mode depth_limit depth_limit) s p (be4 s (at + 28)) k
-        → o ≡ counted k (follow (opened (samples mode depth_limit) f) s (place c))
-    flows_arm {n} at {p = p} e (ends {vs} t) u i =
-        let y : n - 8 + 8 ≡ n = omega (arith, flows_eight q e) in
-        let h : words (n - 8) ++ words 8 ≡ words n = eight_more (n - 8) ∙ ap words y in
-        let z : last_number (vs ++ numbers 8 s at) ≡ be4 s (at + 28) = last_behind vs (numbers 8 s at) (omega arith) ∙ last_of 8 s at (omega arith) in
-        let w = each (flow mode depth_limit depth_limit) (words (n - 8) ++ words 8) (both t u) in
-        i ∙ ap (λ (m : ℕ). rest_of (flow mode depth_limit depth_limit) s p m k) (sym z) ∙ w ∙ ap (λ (l : List Field). counted k (follow (fields l (λ us. repeat (last_number us) (flow mode depth_limit depth_limit) (λ a. give a))) s (place c))) h
-        ∙ ap (λ (x : Script). counted k (follow x s (place c))) (sym (q.is mode ∙ ap (held mode) e))
-
-    pub counters_arm : {n : ℕ} (at : ℕ) {p : Passed} {o : Out ℕ} → r ≡ kind.Counters n → Then (words n) s (passed.Got c) p (numbers n s at) → o ≡ rest_of counter s p (be4 s (at + (4 * n - 4))) k → o ≡ counted k (follow (opened (samples mode depth_limit) f) s (place c))
-    counters_arm {n} at e t i = by_last n counter at (q.is mode ∙ ap (held mode) e) (omega (arith, q.some, ap words_of e)) t i
-
-    pub raw_arm : r ≡ kind.Raw → got k (place c) ≡ counted k (follow (opened (samples mode depth_limit) f) s (place c))
-    unfolding follow
-    raw_arm e = counted_none k (place c) (ap (λ (x : Script). follow x s (place c)) (sym (q.is mode ∙ ap (held mode) e)))
-
--- ---- the flow records behind its words: those passed ahead, and the others
-module _ (mode : Mode) (s : List ℕ) (k : ℕ) {q : Passed} {d : Cursor} (e : q ≡ passed.Got d) {n m : ℕ} (z : n ≡ m) {a : Ahead} (h : AheadOf s d n k a) where
-  pub ahead_all : a.rest ≡ 0 → got a.count (place a.cursor) ≡ rest_of (flow mode depth_limit depth_limit) s q m k
-  unfolding rest_of
-  ahead_all y = rw (e, ← z) (scan_done (flow mode depth_limit depth_limit) s a.cursor a.count a.rest (h.same mode) (omega arith))
-
-  pub ahead_rest : {o : Out ℕ} → o ≡ counted a.count (times a.rest (follow (flow mode depth_limit depth_limit)) s (place a.cursor)) → o ≡ rest_of (flow mode depth_limit depth_limit) s q m k
-  unfolding rest_of
-  ahead_rest i = rw (e, ← z) (i ∙ h.same mode)
-
-pub ruleset sampling = (
-  scan_inside,
-  scan_short,
-  counter_thrift,
-  sample_thrift,
-  scan_on,
-  scan_done,
-  scan_turn,
-  scan_stop,
-  frame_ends,
-  frame_fits,
-  frame_part,
-  frame_counts,
-  frame_scan,
-  held_cut,
-  held_on,
-  resumed_stop,
-  resumed_got,
-  data_cut,
-  data_all,
-  all_steps,
-  cut_short,
-  behind_cut,
-  behind_got,
-  behind_last,
-  counted_scan,
-  fields_counted,
-  rows_counted,
-  flows_words,
-  counters_words,
-  kind_sub,
-  has_last,
-  flows_eight,
-  eight_last,
-  within_ends,
-  last_there,
-  last_fits,
-  flows_arm,
-  counters_arm,
-  raw_arm,
-  ahead_all,
-  ahead_rest,
-  within_start,
-  rules,
-)
+-- none is left
+pub none_left : (sc : Script) (s : List ℕ) (p : Place) (k n : ℕ) {t : Out ℕ} → n ≡ 0 → counted k (times n (follow sc) s p) ≡ t → got k p ≡ t
+none_left sc s p k n z e = turns_done (follow sc) s p k ∙ (rw z at e)

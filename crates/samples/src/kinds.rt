@@ -11,6 +11,7 @@ pub enum SampleKind {
 }
 
 // Format 1 is asked for first, since most samples are of it; and by comparisons, so that the compiler makes no table of jumps.
+#[tactic(auto, unfolding(reading::specs::Layout::opened, reading::specs::Layout::samples))]
 pub fn kind_of(format: u32) -> SampleKind
     ensures { IsKind result format }
 {
