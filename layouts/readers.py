@@ -3,14 +3,15 @@ import re
 import textwrap
 
 MADE = 'Made by layouts/make from layouts/table.'
-WIDEST, BROADEST, SHORTEST = 100, 60, 18  # columns that `rt fmt` leaves to a line, to what is called with or a chain of calls, and to a struct's fields
+WIDEST, BROADEST, SHORTEST, FILLED = 100, 60, 18, 10  # columns that `rt fmt` leaves to a line, to a list, to a struct's fields, and to what fills lines
 # Where what a reader may name comes from.
 USES = {'Address': 'xdr', 'Cursor': 'xdr', 'DataSource': 'numbers', 'DataSourceExpanded': 'crate::kinds', 'Interface': 'numbers',
         'InterfaceExpanded': 'crate::kinds', 'Mode': 'layout::field', 'Network': 'crate::parts', 'Read': 'xdr', 'Record': 'layout::record',
-        'Route': 'crate::parts', 'Span': 'xdr', 'field': 'layout', 'lists': 'layout'}
-# What the proofs of a file see into: the table that has its layouts, and what fields are read as.
-SEEN = ('#![tactic(auto, unfolding(reading::specs::Answer::layout_of, reading::specs::Layout::%s, reading::specs::Cursor::fixed, '
-        'reading::specs::Cursor::read_item, reading::proofs::Fields::field_out, reading::proofs::Fields::fields_out))]')
+        'Route': 'crate::parts', 'Span': 'xdr', **(MODULES := {'data': 'crate', 'field': 'layout', 'lists': 'layout', 'load': ''})}
+# What the proofs of a file see into, by its crate: how a layout stands in the definition, and what is read of it.
+FIELDS = ('reading::specs::Cursor::fixed', 'reading::specs::Cursor::read_item', 'reading::proofs::Fields::field_out', 'reading::proofs::Fields::fields_out')
+SEEN = {'flow_layouts': ('reading::specs::Layout::flows', *FIELDS), 'samples': ('reading::specs::Layout::samples', *FIELDS),
+        'counters': ('reading::specs::Layout::counters', 'crate::specs::Sizes::sizes_of')}
 READER = '''
 // Format %(format)d: %(what)s.
 #[repr(C)]
@@ -46,7 +47,7 @@ class Step:
         self.call = '%s::read(c, s, mode)' % self.part if self.part else 'field::words::<%d>(c, s)' % self.words if self.row else self.shape.call
         self.law = 'after_fields _' if self.part or self.row else self.shape.law
         self.several = self.part or self.shape.several  # it may be more items than its layout says
-        self.passed = 'words(s, %d)' % self.words if self.words else self.shape.passed
+        self.passed = 'Words(%d)' % self.words if self.words else self.shape.passed  # its name in the framing's table; none where that goes by the mode
 
     def bound(self, ordinal):
         """What its line binds, and each of its fields by that: all names, or one for what has too many for a line."""
@@ -104,15 +105,22 @@ def steps_of(layout):
     return [(step, *step.bound(('first', 'second', 'third', 'fourth')[rows.index(step)] if step in rows[1:] or rows[1:] and step.row else 'row')) for step in steps]
 
 
+def fixed_lines(layout):
+    """The lines that read a fixed layout: its bytes at once, and each field from its place."""
+    places = ['at' + ' + %s' % at * (at != '0') for at in layout.offsets()]
+    fields = [(f.name, 'load::be%d(s, %s)' % (8 * f.shape.size, place)) for f, place in zip(layout.fields, places)]
+    return ['        let (at, c) = data::read(c, s, %d)?;' % layout.format, *literal(layout.type, fields, 8, 'let fields = ', ';')]
+
+
 def step_lines(layout):
-    """The lines that read a layout, step by step."""
+    """The lines that read any other layout, step by step."""
     steps = steps_of(layout)
     return [step.line(bound) for step, bound, _ in steps] + literal(layout.type, [pair for _, _, pairs in steps for pair in pairs], 8, 'let fields = ', ';')
 
 
 def reader(layout):
     """The text of a layout's struct and reader."""
-    lines = step_lines(layout)
+    lines = fixed_lines(layout) if layout.fixed else step_lines(layout)
     mode = 'mode' if re.search(r'\bmode\b', '\n'.join(lines)) else '_mode'
     return READER % dict(vars(layout), fields='\n'.join('    pub %s: %s,' % (f.name, f.shape.rust) for f in layout.fields), mode=mode, read='\n'.join(lines))
 
@@ -147,7 +155,7 @@ def answers(layout):
     cited = {'rules': 'std.proofs.Common', 'sixteen': 'reading.specs.Script', 'flows': 'reading.specs.Layout', 'layout_of': 'reading.specs.Answer',
              'after_item': 'layout.proofs.Laws', 'after_block': 'layout.proofs.Laws', 'after_field': 'layout.proofs.Laws', 'after_fields': 'layout.proofs.Laws',
              'all_zero': layout.crate + '.proofs.Zeros'}
-    for name, lines in ('read', read_answers(layout)), ('zero', zero_answers(layout)):
+    for name, lines in () if layout.fixed else (('read', read_answers(layout)), ('zero', zero_answers(layout))):
         if lines:
             path = '%s/%sRecord/%s' % (layout.file, layout.type, name)
             modules = {}
@@ -159,8 +167,8 @@ def answers(layout):
 
 
 def needed(names, text):
-    """Those of the names that the text has, each as a word."""
-    return [name for name in names if re.search(r'(?<![\w.])%s(?!\w)' % re.escape(name), text)]
+    """Those of the names that the text has, each as a word; of a module, what is called in it."""
+    return [name for name in names if re.search(r'(?<![\w.])%s%s' % (re.escape(name), '::' if names is USES and name in MODULES else r'(?!\w)'), text)]
 
 
 def imports(paths):
@@ -182,9 +190,9 @@ def source(about, layouts):
     crate = layouts[0].crate
     body = ''.join(reader(layout) for layout in layouts)
     code = '\n'.join(line for line in body.splitlines() if not line.startswith('//'))
-    lines = ['// ' + MADE, '// ' + about, SEEN % {'flow_layouts': 'flows'}.get(crate, crate), '', 'ghost use Rattle.reading.specs.Answer.{layout_of};',
+    lines = ['// ' + MADE, '// ' + about, '#![tactic(auto, unfolding(reading::specs::Answer::layout_of, %s))]' % ', '.join(SEEN[crate]), '', 'ghost use Rattle.reading.specs.Answer.{layout_of};',
              'ghost use Rattle.%s.specs.Shown.{%s};' % (crate, ', '.join(one.name for one in layouts)), '']
-    return '\n'.join([*lines, *imports('%s::%s' % (USES[name], name) for name in needed(USES, code))]) + '\n' + body
+    return '\n'.join([*lines, *imports('::'.join(filter(None, (USES[name], name))) for name in needed(USES, code))]) + '\n' + body
 
 
 def shown(layouts):
@@ -196,44 +204,37 @@ def shown(layouts):
     return ''.join('use Rattle.%(crate)s.specs.declared.%(file)s.%(type)s.{%(type)s}\n' % vars(one) for one in layouts) + body + '\n'
 
 
-def goals(pairs):
-    """The lines of a proof, from what each is found by and what is shown; a name that came before has its number behind it."""
-    count, lines = {}, []
-    for found, name in pairs:
-        count[name] = count.get(name, 0) + 1
-        lines.append('    (λ %s. %s)  -- %s%s' % ('c κs' if name.endswith('requires') else 'c', found, name, '-%d' % count[name] if count[name] > 1 else ''))
-    return '\n'.join(lines) + '\n'
+def listed(items, indent, behind=''):
+    """The lines of a slice of these, as `rt fmt` has them: short ones fill their lines, and others have one each."""
+    pad, text = ' ' * indent, ', '.join(items)
+    if len(text) <= BROADEST:
+        return ['%s&[%s]%s' % (pad, text, behind)]
+    lines = ['%s    %s,' % (pad, one) for one in items]
+    if max(map(len, items)) <= FILLED:
+        lines = textwrap.wrap(text + ',', WIDEST - 1, initial_indent=pad + '    ', subsequent_indent=pad + '    ')
+    return ['%s&[' % pad, *lines, '%s]%s' % (pad, behind)]
 
 
-def arm(layout):
-    """How the framing passes a payload: an arm of its table."""
-    if layout.fixed:
-        return '        %d => Extent(%d, %d),\n' % (layout.format, layout.size, len(layout.fields))
-    chain = ['row', *('.' + Step(run).passed for run in layout.runs()), '.passed']
-    return '        %d => %s,\n' % (layout.format, ('\n            ' if len(''.join(chain)) > BROADEST else '').join(chain))
+def row_arm(layout):
+    """How the framing passes a flow record: an arm of its table."""
+    steps = [Step(run) for run in layout.runs()]
+    memo, base = ([step.passed or one for step in steps] for one in ('Mac', 'Six'))
+    fields = [['Field::' + name for name in names] for names in (memo, base)]
+    if not layout.modes:
+        lines = listed(fields[0], 8, ',')
+        return ['        %d => %s' % (layout.format, lines[0].lstrip()), *lines[1:]]
+    arms = [[' ' * 12 + 'Mode::%s => %s' % (mode, lines[0].lstrip()), *lines[1:]] for mode, lines in zip(('Memo', 'Base'), (listed(one, 12, ',') for one in fields))]
+    return ['        %d => match mode {' % layout.format, *(line for arm in arms for line in arm), '        },']
 
 
-def arms_proofs(layouts):
-    """What each arm asks, and what it answers; the last one is that of a number of no row. Of fixed layouts: of what has their sizes."""
-    if not layouts[0].fixed:
-        asked = [('search passing', step.passed.partition('(')[0] + '-requires') for one in layouts for step in map(Step, one.runs())]
-        return [('data/pass/Proof', goals(asked + [('search (arm %d, passing)' % one.format, 'returns') for one in layouts] + [('search raw', 'returns')]))]
-    sizes = [('search (bytes_of %d, items_of %d)' % (one.format, one.format), 'returns') for one in layouts] + [('search none', 'returns')]
-    return [('data/fixed/Proof', goals(sizes))]
+def width_arm(layout):
+    """The bytes of a fixed layout, and the widths of its fields: an arm of their table."""
+    lines = listed(['U%d' % (8 * field.shape.size) for field in layout.fields], 12, '[..],')
+    if len(lines) == 1:
+        return ['        %d => (%d, %s),' % (layout.format, layout.size, lines[0].strip()[:-1])]
+    return ['        %d => (' % layout.format, '            %d,' % layout.size, *lines, '        ),']
 
 
-def cut_arm(layout):
-    """How a fixed layout that is cut is gone through: by the widths of its fields."""
-    given = 'c, s, b"%s"' % ''.join('\\x%02x' % field.shape.size for field in layout.fields)
-    broad = '\n            %s,\n        ' % given.replace(', ', ',\n            ')
-    return '        %d => first_cut(%s),\n' % (layout.format, broad if len(given) > BROADEST else given)
-
-
-def raw(layouts):
-    """The law that a number of no row stays raw."""
-    numbers = [layout.format for layout in layouts]
-    shown = ('(mode : Mode) (s : List ℕ) (c : Cursor) ', 'got nothing (place c) ≡ follow (opened (flows mode (give nothing)) f) s (place c)', 'opened flows follow', 'mode s c ')
-    given, says, unfolds, names = ('', 'sizes_of f ≡ []', 'sizes_of counters', '') if layouts[0].fixed else shown
-    not_one, laws = ' '.join('z%d' % n for n in numbers), ', '.join('ne_eqb %d f (λ e. z%d (sym e))' % (n, n) for n in numbers)
-    lines = ['pub raw : %s(f : ℕ) → %s' % (given, ' → '.join('(f ≡ %d → ⊥)' % n for n in numbers)), '    → ' + says, 'unfolding ' + unfolds]
-    return '\n'.join([*lines, 'raw %sf %s = simp (%s)' % (names, not_one, laws), '', ''])
+def arms(layouts):
+    """The arms of a table of the framing."""
+    return ''.join(line + '\n' for layout in layouts for line in (width_arm if layout.fixed else row_arm)(layout))

@@ -5,7 +5,7 @@ from collections import namedtuple
 # words                the names of its words, where it is made of words: '' of a number, '0' of a type around one
 # call, law            how a reader reads it alone, and by which law the cursor is inside behind it
 # several, zeros       whether it is several items, of which there are not always as many; and where its sixteen bytes are, if it has so many, in what is said of its default
-# passed               how the framing passes it
+# passed               its name in the framing's table, where it is no word and has the same in both modes
 # shown, back          its value in terms of the reading, and how it is got back from that
 # c, tool, seen        its type in C, with %s for the name; its shape in tools/layouts.h; how it is shown, where there is no choice
 # size, about          its bytes on the wire, 0 where they are not always as many; and what docs/FORMATS.md calls it
@@ -18,7 +18,7 @@ def number(rust, words, call, passed, c, tool, seen, about):
 
 
 def words(rust, names, c, tool, seen, about):
-    return number(rust, names, 'c.read_u32(s)', 'words(s, %d)' % len(names), c, tool, seen, about)
+    return number(rust, names, 'c.read_u32(s)', None, c, tool, seen, about)
 
 
 def block(count, call, law, passed, tool, seen, size, about):
@@ -38,15 +38,15 @@ SHAPES = {
     'InterfaceExpanded': words('InterfaceExpanded', ('format', 'value'), 'latchplume_interface_expanded', 'INTERFACE_EXPANDED', 'interface',
                                'two words: format, value'),
     'version': number('u32', (), '', '', 'uint32_t', 'NUMBER', None, 'word, which is 5'),
-    'protocol': number('u32', (), 'field::protocol(c, s)', 'protocol(s)', 'uint32_t', 'NUMBER', None, 'word, one of 1 to 17'),
-    'u64': number('u64', (), 'c.read_u64(s)', 'long(s)', 'uint64_t', 'LONG', None, 'u64'),
-    'ethernet': block(6, 'field::six(c, s, mode)', 'after_field _', 'six(s, mode)', 'MAC', 'MAC', 8, '6 bytes, and 2 that are read over; in the base mode 6'),
-    'mac': block(6, 'field::six(c, s, Mode::Memo)', 'after_field _', 'six(s, Mode::Memo)', 'MAC', 'MAC', 8, '6 bytes, and 2 that are read over'),
-    'sixteen': block(16, 'c.read_fixed::<16>(s)', 'after_block sixteen', 'sixteen(s)', 'IPV6', 'IPv6', 16, '16 bytes'),
-    'address': Shape('Address', (), 'c.parse_address(s)', 'after_field _', True, '.1', 'address(s)', 'an_address r.%s', 'address_at', 'latchplume_address %s', 'ADDRESS', 'address', 0,
+    'protocol': number('u32', (), 'field::protocol(c, s)', 'Protocol', 'uint32_t', 'NUMBER', None, 'word, one of 1 to 17'),
+    'u64': number('u64', (), 'c.read_u64(s)', 'Long', 'uint64_t', 'LONG', None, 'u64'),
+    'ethernet': block(6, 'field::six(c, s, mode)', 'after_field _', None, 'MAC', 'MAC', 8, '6 bytes, and 2 that are read over; in the base mode 6'),
+    'mac': block(6, 'field::six(c, s, Mode::Memo)', 'after_field _', 'Mac', 'MAC', 'MAC', 8, '6 bytes, and 2 that are read over'),
+    'sixteen': block(16, 'c.read_fixed::<16>(s)', 'after_block sixteen', 'Sixteen', 'IPV6', 'IPv6', 16, '16 bytes'),
+    'address': Shape('Address', (), 'c.parse_address(s)', 'after_field _', True, '.1', 'Address', 'an_address r.%s', 'address_at', 'latchplume_address %s', 'ADDRESS', 'address', 0,
                      'address: its type, and no byte, 4 or 16'),
-    'string': span('c.read_string(s)', 'after_item _', 'text(s)', 'STRING', 'text', 'string: its length, its bytes, their pad'),
-    'opaque': span('c.read_opaque(s)', 'after_item _', 'opaque(s)', 'BYTES', 'bytes', 'opaque: its length, its bytes, their pad'),
-    'list': span('lists::list(c, s)', 'after_field _', 'list(s)', 'LIST', None, 'list: how many words, and those'),
-    'segments': span('lists::segments(c, s)', 'after_field _', 'segments(s)', 'SEGMENTS', 'path', 'segments: how many, and those'),
+    'string': span('c.read_string(s)', 'after_item _', 'Text', 'STRING', 'text', 'string: its length, its bytes, their pad'),
+    'opaque': span('c.read_opaque(s)', 'after_item _', 'Opaque', 'BYTES', 'bytes', 'opaque: its length, its bytes, their pad'),
+    'list': span('lists::list(c, s)', 'after_field _', 'List', 'LIST', None, 'list: how many words, and those'),
+    'segments': span('lists::segments(c, s)', 'after_field _', 'Segments', 'SEGMENTS', 'path', 'segments: how many, and those'),
 }

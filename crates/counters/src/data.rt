@@ -1,13 +1,14 @@
 // What a counter record's payload holds: the table of docs/RULES.md, R3.7, row by row.
-ghost use Rattle.std.specs.Prelude.{◌≡◌};
+ghost use Rattle.std.specs.Prelude.{◌≡◌, ◌+◌, ◌≤◌, length, IfOk};
 ghost use Rattle.reading.specs.Script.{nothing};
-ghost use Rattle.reading.specs.Cursor.{follow};
-ghost use Rattle.reading.specs.Layout.{size_of, total, widths, opened, fixed_rows, counters};
-ghost use Rattle.xdr.specs.Shown.{Inside, place, passed_out};
+ghost use Rattle.reading.specs.Layout.{size_of, total, widths};
+ghost use Rattle.reading.proofs.Fields.{fields_out};
+ghost use Rattle.reading.proofs.Widths.{numbers};
+ghost use Rattle.xdr.specs.Shown.{Inside, passed_out, place, read_out};
 ghost use Rattle.layout.specs.Passing.{passing};
 ghost use Rattle.counters.specs.Sizes.{size, sizes, sizes_of};
 
-use xdr::{Cursor, Passed};
+use xdr::{Cursor, Passed, Read};
 
 // The width of a field: a word's, or a u64's.
 #[derive(Clone, Copy)]
@@ -103,4 +104,14 @@ pub fn pass(c: Cursor, s: &[u8], format: u32) -> Passed
         at: c.at + row.bytes,
         steps: c.steps + row.widths.len(),
     })
+}
+
+// Where a record begins that is all there.
+pub fn read(c: Cursor, s: &[u8], format: u32) -> Read<usize>
+    requires { Inside s.now c }
+    ensures numbers { read_out (numbers (sizes_of format) s.now) result ≡ fields_out (widths (sizes_of format)) s.now (place c) }
+    ensures has_bytes { IfOk result (λ r. r.0 + total (sizes_of format) ≤ length s.now) }
+{
+    let end = pass(c, s, format)?;
+    Ok((c.at, end))
 }

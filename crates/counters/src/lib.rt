@@ -2,3 +2,4 @@
 #![tactic(auto)]
 
 pub mod data;
+pub mod polled;

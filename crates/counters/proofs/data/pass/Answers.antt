@@ -1,4 +1,4 @@
-use Rattle.std.proofs.Common.{ℕ, ◌≡◌, arith, sym, ap, ◌∙◌, length}
+use Rattle.std.proofs.Common.{◌≡◌, arith, sym, ap, ◌∙◌, length}
 use Rattle.counters.specs.Sizes.{sizes_of}
 use Rattle.counters.proofs.Passing.{all_pass, as_many}
 use Rattle.counters.proofs.data.pass.Goals as goal
