@@ -12,6 +12,11 @@ USES = {'Address': 'xdr', 'Cursor': 'xdr', 'DataSource': 'numbers', 'DataSourceE
 FIELDS = ('reading::specs::Cursor::fixed', 'reading::specs::Cursor::read_item', 'reading::proofs::Fields::field_out', 'reading::proofs::Fields::fields_out')
 SEEN = {'flow_layouts': ('reading::specs::Layout::flows', *FIELDS), 'samples': ('reading::specs::Layout::samples', *FIELDS),
         'counters': ('reading::specs::Layout::counters', 'crate::specs::Sizes::sizes_of')}
+TABLES = {'flow_layouts': 'flows', 'samples': 'samples'}  # of `reading`
+# Where what an answer may name comes from.
+CITED = {'std.proofs.Common': 'rules ℕ ◌≡◌ ap ◌∙◌ List length map', 'reading.specs.Script': 'number sixteen', 'reading.specs.Cursor': 'got',
+         'reading.specs.Layout': 'flows samples', 'reading.specs.Answer': 'layout_of', 'xdr.specs.Shown': 'place',
+         'layout.proofs.Laws': 'after_item after_block after_field after_fields spelled', 'flow_layouts.proofs.Zeros': 'all_zero'}
 READER = '''
 // Format %(format)d: %(what)s.
 #[repr(C)]
@@ -46,7 +51,7 @@ class Step:
         self.row = self.words > 1 and not self.part
         self.call = '%s::read(c, s, mode)' % self.part if self.part else 'field::words::<%d>(c, s)' % self.words if self.row else self.shape.call
         self.law = 'after_fields _' if self.part or self.row else self.shape.law
-        self.several = self.part or self.shape.several  # it may be more items than its layout says
+        self.several = any(f.shape.several for f in fields)  # there is a field of which nobody knows how many items it is
         self.passed = 'Words(%d)' % self.words if self.words else self.shape.passed  # its name in the framing's table; none where that goes by the mode
 
     def bound(self, ordinal):
@@ -141,34 +146,39 @@ def read_answers(layout):
     return lines
 
 
+def row_answers(layout):
+    """Of one row of many words, that they are all of the row."""
+    (step, bound, _), *more = steps_of(layout)
+    if more or bound != 'row' or step.words <= 8:
+        return []
+    shown = 'got (map number w) (place c.in_ok-row.c)'
+    return ['', 'pub returns : goal.returns', 'unfolding layout_of %s' % TABLES[layout.crate], 'returns c =', '    let l : length c.in_ok-row.row ≡ %d = search rules in' % step.words,
+            '    ap (λ (w : List ℕ). %s) (spelled %d c.in_ok-row.row l) ∙ c.in_ok-row.ensures' % (shown, step.words)]
+
+
 def zero_answers(layout):
     """Of two blocks of sixteen bytes and more, that each is all zero by default."""
     lines, last = [], len(layout.fields) - 1
     for at, field in enumerate(layout.fields):
         if field.shape.zeros is not None:
             lines.append('    let e%d = all_zero c.default.ensures%s%s%s in' % (len(lines) + 1, '.1' * at, '.0' * (at < last), field.shape.zeros))
-    return ['', 'pub returns : goal.returns', 'unfolding layout_of flows', 'returns c mode =', *lines, '    search rules'] if len(lines) > 1 else []
+    return ['', 'pub returns : goal.returns', 'unfolding layout_of %s' % TABLES[layout.crate], 'returns c mode =', *lines, '    search rules'] if len(lines) > 1 else []
 
 
 def answers(layout):
     """What the proofs of a layout's functions have to be told, by the functions' names."""
-    cited = {'rules': 'std.proofs.Common', 'sixteen': 'reading.specs.Script', 'flows': 'reading.specs.Layout', 'layout_of': 'reading.specs.Answer',
-             'after_item': 'layout.proofs.Laws', 'after_block': 'layout.proofs.Laws', 'after_field': 'layout.proofs.Laws', 'after_fields': 'layout.proofs.Laws',
-             'all_zero': layout.crate + '.proofs.Zeros'}
-    for name, lines in () if layout.fixed else (('read', read_answers(layout)), ('zero', zero_answers(layout))):
+    for name, lines in () if layout.fixed else (('read', read_answers(layout) + row_answers(layout)), ('zero', zero_answers(layout))):
         if lines:
             path = '%s/%sRecord/%s' % (layout.file, layout.type, name)
-            modules = {}
-            for word in needed(cited, '\n'.join(lines)):
-                modules.setdefault(cited[word], []).append(word)
-            uses = ['use Rattle.%s.{%s}' % (module, ', '.join(words)) for module, words in modules.items()]
+            cited = [(module, needed(names.split(), '\n'.join(lines))) for module, names in CITED.items()]
+            uses = ['use Rattle.%s.{%s}' % (module, ', '.join(names)) for module, names in cited if names]
             uses.append('use Rattle.%s.proofs.%s.Goals as goal' % (layout.crate, path.replace('/', '.')))
             yield path + '/Answers.antt', '\n'.join(['-- ' + MADE, *uses, *lines]) + '\n'
 
 
 def needed(names, text):
     """Those of the names that the text has, each as a word; of a module, what is called in it."""
-    return [name for name in names if re.search(r'(?<![\w.])%s%s' % (re.escape(name), '::' if names is USES and name in MODULES else r'(?!\w)'), text)]
+    return [name for name in names if re.search(r'(?<![\w.])%s%s' % (re.escape(name.strip('◌')), '::' if names is USES and name in MODULES else r'(?!\w)'), text)]
 
 
 def imports(paths):

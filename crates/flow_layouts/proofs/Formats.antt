@@ -1,8 +1,8 @@
 -- What the payload of a flow record that is no aggregation holds: the fields of its layout, and nothing behind them. Assumes nothing.
-use Rattle.std.proofs.Common.{ℕ, ◌≡◌, refl, sym, ap, ◌∙◌, Bool, true, false, cond, List, [], ◌∷◌}
+use Rattle.std.proofs.Common.{ℕ, ◌≡◌, refl, sym, Bool, true, false, cond, List, [], ◌∷◌}
 use borrow.Author.Tests.{ne_eqb}
 use lib.Dec.{eqb}
-use Rattle.reading.specs.Script.{Script, give, nothing}
+use Rattle.reading.specs.Script.{give, nothing}
 use Rattle.reading.specs.Layout.{Field, Mode, Row, ◌⟼◌, fields, flows, opened}
 use Rattle.reading.specs.Answer.{layout_at, layout_of}
 

@@ -1,6 +1,6 @@
 -- What the readers of fields and of lists answer in terms of the reading, with the facts that the code has there. Assumes nothing.
 use Rattle.std.proofs.Common.{ℕ, zero, suc, ◌+◌, ◌*◌, ◌-◌, ◌≡◌, ◌≤◌, ◌<◌, refl, sym, ap, ◌∙◌, List, [], ◌∷◌, length, map, take, drop, get_or, arith}
-use native.Mathlib.Numerals.{sub-one}
+use native.Mathlib.Numerals.{add-one, sub-one}
 use Rattle.reading.specs.Bytes.{be4}
 use Rattle.reading.specs.Script.{Width, octet_count, Value, number, octets, Found, nothing, Item, block, Script, give}
 use Rattle.reading.specs.Cursor.{Place, Out, got, stop, Reader, then, fixed, read_item, times, follow}
@@ -33,6 +33,29 @@ module _ (s : List ℕ) (at : ℕ) where
       let f : v ≡ be4 s at = h 0 (omega arith) ∙ ap (λ (j : ℕ). be4 s j) a in
       let g = loads_from n 4 w (omega arith) (λ k l. let b : at + 4 * suc k ≡ at + (4 + 4 * k) = omega arith in h (suc k) (omega arith) ∙ ap (λ (j : ℕ). be4 s j) b) in
       cc
+
+-- ---- a row by its words
+
+-- n words of a row, from the one with index m on
+abbrev pub words_from : (n m : ℕ) → List ℕ → List ℕ
+words_from zero m w = []
+words_from (suc n) m w = get_or w m 0 ∷ words_from n (m + 1) w
+
+next_from : (n m v : ℕ) (w : List ℕ) → words_from n (m + 1) (v ∷ w) ≡ words_from n m w
+next_from zero m v w = refl
+next_from (suc n) m v w =
+    let e = next_from n (m + 1) v w in
+    let f : get_or (v ∷ w) (m + 1) 0 ≡ get_or w m 0 = rw add-one in
+    cc
+
+pub spelled : (n : ℕ) (w : List ℕ) → length w ≡ n → words_from n 0 w ≡ w
+spelled zero [] l = refl
+spelled zero (v ∷ w) l = absurd (omega arith)
+spelled (suc n) [] l = absurd (omega arith)
+spelled (suc n) (v ∷ w) l =
+    let e = next_from n 0 v w in
+    let f = spelled n w (omega arith) in
+    cc
 
 -- ---- a cursor behind what was read is inside, as the one before it
 

@@ -2,9 +2,9 @@
 use Rattle.std.proofs.Common.{ℕ, zero, suc, ◌+◌, ◌*◌, ◌-◌, ◌≡◌, ◌≤◌, refl, sym, ap, ◌∙◌, List, length, arith}
 use Rattle.reading.specs.Sizes.{depth_limit}
 use Rattle.reading.specs.Bytes.{be4}
-use Rattle.reading.specs.Script.{Value, nothing, Script, give, repeat}
+use Rattle.reading.specs.Script.{Value, nothing, Script}
 use Rattle.reading.specs.Cursor.{Place, Out, got, stop, then, times, follow}
-use Rattle.reading.specs.Layout.{Mode, any_word, words, fields, last_number, opened, fixed_rows, counters, counter, flow, samples, sample}
+use Rattle.reading.specs.Layout.{Mode, any_word, words, last_number, opened, fixed_rows, counters, counter, samples, sample}
 use Rattle.reading.proofs.Items.{never}
 use Rattle.reading.proofs.Counts.{counted, counted_none, counted_stop, fields_stop, each_held, turns_done}
 use Rattle.reading.proofs.Fields.{fields_out}

@@ -1,23 +1,21 @@
 // Made by layouts/make from layouts/table.
 // Heads: the fields of a datagram or of a sample, before what it holds.
-ghost use Rattle.std.specs.Prelude.{◌≡◌};
-ghost use Rattle.reading.specs.Layout.{memo, words};
-ghost use Rattle.reading.specs.Values.{zeros};
+#![tactic(auto, unfolding(reading::specs::Answer::layout_of, reading::specs::Layout::samples, reading::specs::Cursor::fixed, reading::specs::Cursor::read_item, reading::proofs::Fields::field_out, reading::proofs::Fields::fields_out))]
+
 ghost use Rattle.reading.specs.Answer.{layout_of};
-ghost use Rattle.xdr.specs.Shown.{Answers};
-ghost use Rattle.layout.specs.Chain.{Within};
 ghost use Rattle.samples.specs.Shown.{flow_sample, counters_sample, flow_sample_expanded, counters_sample_expanded, discarded_packet};
 
 use crate::kinds::{DataSourceExpanded, InterfaceExpanded};
 use layout::field;
+use layout::field::Mode;
+use layout::record::Record;
 use numbers::{DataSource, Interface};
-use xdr::{Outcome, Passed};
+use xdr::{Cursor, Read};
 
 // Format 1: a packet sampled from a source.
 #[repr(C)]
-#[derive(Clone, Copy)]
+#[derive(Clone, Copy, Default)]
 pub struct FlowSample {
-    pub outcome: Outcome,
     pub sequence_number: u32,
     pub source_id: DataSource,
     pub sampling_rate: u32,
@@ -28,85 +26,64 @@ pub struct FlowSample {
     pub num_records: u32,
 }
 
-impl FlowSample {
-    pub fn parse(p: Passed, s: &[u8]) -> FlowSample
-        requires { Within s.now p }
-        ensures { Answers (layout_of memo 1 1) s.now p result.outcome (flow_sample result) }
-    {
-        let row = field::words(p, s, 8);
-        let passed = row.passed;
-        match passed {
-            Passed::Stop(r) => FlowSample {
-                outcome: r,
-                sequence_number: 0,
-                source_id: DataSource(0),
-                sampling_rate: 0,
-                sample_pool: 0,
-                drops: 0,
-                input: Interface(0),
-                output: Interface(0),
-                num_records: 0,
-            },
-            Passed::Got(d) => {
-                let words = field::load_words(s, row.at, 8);
-                FlowSample {
-                    outcome: d.accepted(),
-                    sequence_number: words[0],
-                    source_id: DataSource(words[1]),
-                    sampling_rate: words[2],
-                    sample_pool: words[3],
-                    drops: words[4],
-                    input: Interface(words[5]),
-                    output: Interface(words[6]),
-                    num_records: words[7],
-                }
-            }
-        }
+impl Record for FlowSample {
+    ghost layout = { λ mode. layout_of mode 1 1 };
+
+    ghost values = { flow_sample };
+
+    fn zero() -> FlowSample {
+        FlowSample::default()
+    }
+
+    fn read(c: Cursor, s: &[u8], _mode: Mode) -> Read<FlowSample> {
+        let (row, c) = field::words::<8>(c, s)?;
+        let fields = FlowSample {
+            sequence_number: row[0],
+            source_id: DataSource(row[1]),
+            sampling_rate: row[2],
+            sample_pool: row[3],
+            drops: row[4],
+            input: Interface(row[5]),
+            output: Interface(row[6]),
+            num_records: row[7],
+        };
+        Ok((fields, c))
     }
 }
 
 // Format 2: counters of a source.
 #[repr(C)]
-#[derive(Clone, Copy)]
+#[derive(Clone, Copy, Default)]
 pub struct CountersSample {
-    pub outcome: Outcome,
     pub sequence_number: u32,
     pub source_id: DataSource,
     pub num_records: u32,
 }
 
-impl CountersSample {
-    pub fn parse(p: Passed, s: &[u8]) -> CountersSample
-        requires { Within s.now p }
-        ensures { Answers (layout_of memo 1 2) s.now p result.outcome (counters_sample result) }
-    {
-        let row = field::words(p, s, 3);
-        let passed = row.passed;
-        match passed {
-            Passed::Stop(r) => CountersSample {
-                outcome: r,
-                sequence_number: 0,
-                source_id: DataSource(0),
-                num_records: 0,
-            },
-            Passed::Got(d) => {
-                let words = field::load_words(s, row.at, 3);
-                CountersSample {
-                    outcome: d.accepted(),
-                    sequence_number: words[0],
-                    source_id: DataSource(words[1]),
-                    num_records: words[2],
-                }
-            }
-        }
+impl Record for CountersSample {
+    ghost layout = { λ mode. layout_of mode 1 2 };
+
+    ghost values = { counters_sample };
+
+    fn zero() -> CountersSample {
+        CountersSample::default()
+    }
+
+    fn read(c: Cursor, s: &[u8], _mode: Mode) -> Read<CountersSample> {
+        let ([sequence_number, source_id, num_records], c) = field::words::<3>(c, s)?;
+        let fields = CountersSample {
+            sequence_number,
+            source_id: DataSource(source_id),
+            num_records,
+        };
+        Ok((fields, c))
     }
 }
 
 // Format 3: as 1, with two words each for the source and the interfaces.
 #[repr(C)]
-#[derive(Clone, Copy)]
+#[derive(Clone, Copy, Default)]
 pub struct FlowSampleExpanded {
-    pub outcome: Outcome,
     pub sequence_number: u32,
     pub source_id: DataSourceExpanded,
     pub sampling_rate: u32,
@@ -117,115 +94,76 @@ pub struct FlowSampleExpanded {
     pub num_records: u32,
 }
 
-impl FlowSampleExpanded {
-    fn none(r: Outcome) -> FlowSampleExpanded
-        ensures { (result.outcome ≡ r) × (flow_sample_expanded result ≡ zeros (words 11)) }
-    {
-        FlowSampleExpanded {
-            outcome: r,
-            sequence_number: 0,
-            source_id: DataSourceExpanded {
-                source_id_type: 0,
-                source_id_index: 0,
-            },
-            sampling_rate: 0,
-            sample_pool: 0,
-            drops: 0,
-            input: InterfaceExpanded {
-                format: 0,
-                value: 0,
-            },
-            output: InterfaceExpanded {
-                format: 0,
-                value: 0,
-            },
-            num_records: 0,
-        }
+impl Record for FlowSampleExpanded {
+    ghost layout = { λ mode. layout_of mode 1 3 };
+
+    ghost values = { flow_sample_expanded };
+
+    fn zero() -> FlowSampleExpanded {
+        FlowSampleExpanded::default()
     }
 
-    pub fn parse(p: Passed, s: &[u8]) -> FlowSampleExpanded
-        requires { Within s.now p }
-        ensures { Answers (layout_of memo 1 3) s.now p result.outcome (flow_sample_expanded result) }
-    {
-        let row = field::words(p, s, 11);
-        let passed = row.passed;
-        match passed {
-            Passed::Stop(r) => FlowSampleExpanded::none(r),
-            Passed::Got(d) => {
-                let words = field::load_words(s, row.at, 11);
-                FlowSampleExpanded {
-                    outcome: d.accepted(),
-                    sequence_number: words[0],
-                    source_id: DataSourceExpanded {
-                        source_id_type: words[1],
-                        source_id_index: words[2],
-                    },
-                    sampling_rate: words[3],
-                    sample_pool: words[4],
-                    drops: words[5],
-                    input: InterfaceExpanded {
-                        format: words[6],
-                        value: words[7],
-                    },
-                    output: InterfaceExpanded {
-                        format: words[8],
-                        value: words[9],
-                    },
-                    num_records: words[10],
-                }
-            }
-        }
+    fn read(c: Cursor, s: &[u8], _mode: Mode) -> Read<FlowSampleExpanded> {
+        let (row, c) = field::words::<11>(c, s)?;
+        let fields = FlowSampleExpanded {
+            sequence_number: row[0],
+            source_id: DataSourceExpanded {
+                source_id_type: row[1],
+                source_id_index: row[2],
+            },
+            sampling_rate: row[3],
+            sample_pool: row[4],
+            drops: row[5],
+            input: InterfaceExpanded {
+                format: row[6],
+                value: row[7],
+            },
+            output: InterfaceExpanded {
+                format: row[8],
+                value: row[9],
+            },
+            num_records: row[10],
+        };
+        Ok((fields, c))
     }
 }
 
 // Format 4: as 2, with two words for the source.
 #[repr(C)]
-#[derive(Clone, Copy)]
+#[derive(Clone, Copy, Default)]
 pub struct CountersSampleExpanded {
-    pub outcome: Outcome,
     pub sequence_number: u32,
     pub source_id: DataSourceExpanded,
     pub num_records: u32,
 }
 
-impl CountersSampleExpanded {
-    pub fn parse(p: Passed, s: &[u8]) -> CountersSampleExpanded
-        requires { Within s.now p }
-        ensures { Answers (layout_of memo 1 4) s.now p result.outcome (counters_sample_expanded result) }
-    {
-        let row = field::words(p, s, 4);
-        let passed = row.passed;
-        match passed {
-            Passed::Stop(r) => CountersSampleExpanded {
-                outcome: r,
-                sequence_number: 0,
-                source_id: DataSourceExpanded {
-                    source_id_type: 0,
-                    source_id_index: 0,
-                },
-                num_records: 0,
+impl Record for CountersSampleExpanded {
+    ghost layout = { λ mode. layout_of mode 1 4 };
+
+    ghost values = { counters_sample_expanded };
+
+    fn zero() -> CountersSampleExpanded {
+        CountersSampleExpanded::default()
+    }
+
+    fn read(c: Cursor, s: &[u8], _mode: Mode) -> Read<CountersSampleExpanded> {
+        let (row, c) = field::words::<4>(c, s)?;
+        let fields = CountersSampleExpanded {
+            sequence_number: row[0],
+            source_id: DataSourceExpanded {
+                source_id_type: row[1],
+                source_id_index: row[2],
             },
-            Passed::Got(d) => {
-                let words = field::load_words(s, row.at, 4);
-                CountersSampleExpanded {
-                    outcome: d.accepted(),
-                    sequence_number: words[0],
-                    source_id: DataSourceExpanded {
-                        source_id_type: words[1],
-                        source_id_index: words[2],
-                    },
-                    num_records: words[3],
-                }
-            }
-        }
+            num_records: row[3],
+        };
+        Ok((fields, c))
     }
 }
 
 // Format 5: a packet that was discarded, and why.
 #[repr(C)]
-#[derive(Clone, Copy)]
+#[derive(Clone, Copy, Default)]
 pub struct DiscardedPacket {
-    pub outcome: Outcome,
     pub sequence_number: u32,
     pub source_id: DataSourceExpanded,
     pub drops: u32,
@@ -235,43 +173,29 @@ pub struct DiscardedPacket {
     pub num_records: u32,
 }
 
-impl DiscardedPacket {
-    pub fn parse(p: Passed, s: &[u8]) -> DiscardedPacket
-        requires { Within s.now p }
-        ensures { Answers (layout_of memo 1 5) s.now p result.outcome (discarded_packet result) }
-    {
-        let row = field::words(p, s, 8);
-        let passed = row.passed;
-        match passed {
-            Passed::Stop(r) => DiscardedPacket {
-                outcome: r,
-                sequence_number: 0,
-                source_id: DataSourceExpanded {
-                    source_id_type: 0,
-                    source_id_index: 0,
-                },
-                drops: 0,
-                input_ifindex: 0,
-                output_ifindex: 0,
-                reason: 0,
-                num_records: 0,
+impl Record for DiscardedPacket {
+    ghost layout = { λ mode. layout_of mode 1 5 };
+
+    ghost values = { discarded_packet };
+
+    fn zero() -> DiscardedPacket {
+        DiscardedPacket::default()
+    }
+
+    fn read(c: Cursor, s: &[u8], _mode: Mode) -> Read<DiscardedPacket> {
+        let (row, c) = field::words::<8>(c, s)?;
+        let fields = DiscardedPacket {
+            sequence_number: row[0],
+            source_id: DataSourceExpanded {
+                source_id_type: row[1],
+                source_id_index: row[2],
             },
-            Passed::Got(d) => {
-                let words = field::load_words(s, row.at, 8);
-                DiscardedPacket {
-                    outcome: d.accepted(),
-                    sequence_number: words[0],
-                    source_id: DataSourceExpanded {
-                        source_id_type: words[1],
-                        source_id_index: words[2],
-                    },
-                    drops: words[3],
-                    input_ifindex: words[4],
-                    output_ifindex: words[5],
-                    reason: words[6],
-                    num_records: words[7],
-                }
-            }
-        }
+            drops: row[3],
+            input_ifindex: row[4],
+            output_ifindex: row[5],
+            reason: row[6],
+            num_records: row[7],
+        };
+        Ok((fields, c))
     }
 }

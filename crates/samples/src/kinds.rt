@@ -34,7 +34,7 @@ pub fn kind_of(format: u32) -> SampleKind
 
 // A source whose type and index have a word each.
 #[repr(C)]
-#[derive(Clone, Copy)]
+#[derive(Clone, Copy, Default)]
 pub struct DataSourceExpanded {
     pub source_id_type: u32,
     pub source_id_index: u32,
@@ -42,7 +42,7 @@ pub struct DataSourceExpanded {
 
 // An interface whose format and value have a word each.
 #[repr(C)]
-#[derive(Clone, Copy)]
+#[derive(Clone, Copy, Default)]
 pub struct InterfaceExpanded {
     pub format: u32,
     pub value: u32,

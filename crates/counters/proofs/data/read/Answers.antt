@@ -1,7 +1,7 @@
 use Rattle.std.proofs.Common.{rules}
 use Rattle.counters.specs.Sizes.{sizes_of}
 use Rattle.xdr.specs.Shown.{place}
-use Rattle.counters.proofs.Passing.{there, not_there}
+use Rattle.counters.proofs.There.{there, not_there}
 use Rattle.counters.proofs.data.read.Goals as goal
 
 pub returns-in_err-end : goal.returns-in_err-end
