@@ -2,25 +2,22 @@
 -- cites what a caller learns (`Learnt`, which the check makes of the call's `ensures`), so that a weaker `ensures` is refused here. `s` is
 -- a reference to the input, `store` one to the store, which is at its last value at the exit, and `e` a parameter at the exit, or all of
 -- them. Assumes nothing.
-use Prim.Native.Nat.{ℕ}
-use mathlib.Core.List.{List, [], ◌∷◌}
+use Rattle.std.proofs.Common.{ℕ, ◌≡◌, List}
 use denote.Ref.{at_last}
-use Rattle.reading.specs.Script.{number}
 use Rattle.reading.specs.Cursor.{follow}
-use Rattle.reading.specs.Layout.{memo, base as base_mode, version, datagram}
-use Rattle.reading.specs.Answer.{from, layout_of, answered, one, run}
+use Rattle.reading.specs.Layout.{base as base_mode, datagram, header}
+use Rattle.reading.specs.Answer.{from, one, run}
 use Rattle.reading.proofs.Counts.{counted}
-use Rattle.xdr.specs.declared.Passed.TheVariants as passed
-use Rattle.xdr.specs.Shown.{answer_of, place, read_on}
-use Rattle.xdr.proofs.Settles.{Settles, settled, settled_by}
+use Rattle.reading.proofs.Fields.{fields_out}
+use Rattle.xdr.specs.Shown.{place, read_out}
+use Rattle.xdr.proofs.Settles.{Settles, settled}
+use Rattle.layout.specs.Shown.{mode_of, scanned_out}
 use Rattle.store.specs.declared.Written.{Written}
-use Rattle.layout.specs.Chain.{Then, mode_of}
-use Rattle.layout.specs.Scanned.{scanned_out}
 use Rattle.store.specs.Written.{written, placed}
 use Rattle.datagram.specs.declared.decode.Answer.{Answer}
 use Rattle.datagram.specs.declared.decode.Decoded.{Decoded}
-use Rattle.datagram.specs.Shown.{decoded, header_fields, Heads, ran, root}
-use Rattle.datagram.proofs.Lossless.{decoded_lossless, ran_lossless, header_lossless, scanned_lossless, written_lossless}
+use Rattle.datagram.specs.Shown.{decoded, header_fields, ran, root}
+use Rattle.datagram.proofs.Lossless.{decoded_lossless, header_lossless, ran_lossless, scanned_lossless, written_lossless}
 use Rattle.datagram.proofs as call
 
 module _ (κs s store mode : _) where
@@ -38,8 +35,11 @@ module _ (κs s store mode : _) where
 
 -- ---- what they call
 
-pub parse_settled : (κs p s : _) → Settles (call.header.Header.parse.Reads.Learnt κs (p, (s, tt))) (λ r. answer_of r.outcome (header_fields r)) (answered (read_on (layout_of memo 0 0) s.now p))
-parse_settled κs p s = settled_by header_lossless (λ r e h. h.is)
+pub read_settled : (κs c s mode : _) → Settles (call.header.HeaderRecord.read.Reads.Learnt κs (c, (s, (mode, tt)))) (read_out header_fields) (fields_out header s.now (place c))
+read_settled κs c s mode = settled header_lossless
+
+pub no_room_settled : (κs end needed r e : _) → call.decode.Answer.no_room.Reads.Learnt κs (end, (needed, tt)) r e → r ≡ record { code = 9; at = 0; steps = end.steps; needed = needed }
+no_room_settled κs end needed r e h = h
 
 pub scan_datagram_settled : (κs s c mode count : _) → Settles (call.one.scan_datagram.Reads.Learnt κs (s, (c, (mode, (count, tt))))) scanned_out (counted count (follow (datagram (mode_of mode)) s.now (place c)))
 scan_datagram_settled κs s c mode count = settled scanned_lossless
@@ -49,10 +49,3 @@ pub put_datagram_settled : (κs s at store base : _) → Settles
     (λ r. written r.0 r.1)
     (placed (root base) (follow (datagram base_mode) s.now (from at)) store.now)
 put_datagram_settled κs s at store base = settled written_lossless
-
--- beside a refusal a value is left open, which no caller reads
-pub version_at_says : (κs c s r e : _) → call.header.version_at.Reads.Learnt κs (c, (s, tt)) r e → Then (version ∷ []) s.now (passed.Got c) r.passed (number r.value ∷ [])
-version_at_says κs c s r e h = h
-
-pub row_says : (κs c s r e : _) → call.header.row.Reads.Learnt κs (c, (s, tt)) r e → Heads s.now c r
-row_says κs c s r e h = h

@@ -9,9 +9,9 @@ use borrow.Author.Tests.{leb-true, le-leb, lt-leb}
 use lib.Dec.{leb}
 use lib.ListN.{length, take, drop, get_or}
 use lib.Seq.{length-take-le}
-use Rattle.reading.specs.Script.{Value, number, Forest, Found}
+use Rattle.reading.specs.Script.{Value, Forest, Found}
 use Rattle.reading.specs.Cursor.{Place, Out, got, stop, times, follow}
-use Rattle.reading.specs.Layout.{Mode, base as base_mode, version, addr, words, last_number, sample, header, datagram}
+use Rattle.reading.specs.Layout.{Mode, base as base_mode, last_number, sample, header, datagram}
 use Rattle.reading.specs.Answer as answer
 use Rattle.reading.specs.Answer.{limited, size, rows, room, from, nobody, header_of, no_header, refused, stored, one, run}
 use Rattle.reading.specs.Sizes.{descriptor_words, longest_input, depth_limit}
@@ -21,26 +21,19 @@ use Rattle.reading.proofs.Runs.{run_from, thrifty_run}
 use Rattle.reading.proofs.Modes.{in_base}
 use Rattle.reading.proofs.RunModes.{RunInBase, run_in_base}
 use Rattle.reading.proofs.Counts.{counted}
-use Rattle.reading.proofs.Words.{numbers}
 use Rattle.reading.proofs.Stored.{write, write_length, write_all, rows_length}
 use Rattle.reading.proofs.Places.{Accepted, accepted, ranges_of, end_of}
 use Rattle.xdr.specs.declared.Cursor.{Cursor}
-use Rattle.xdr.specs.declared.Outcome.{Outcome}
-use Rattle.xdr.specs.declared.Passed.{Passed}
-use Rattle.xdr.specs.declared.Passed.TheVariants as passed
-use Rattle.xdr.specs.declared.Address.{Address}
-use Rattle.xdr.specs.Shown.{place, Inside, an_address, refusal}
-use Rattle.layout.specs.declared.frames.Scanned.{Scanned}
-use Rattle.layout.specs.declared.frames.Scanned.TheVariants as scanned
-use Rattle.layout.specs.Scanned.{Scan, scanned_out}
-use Rattle.layout.specs.Chain.{Then, goes, halts, loaded}
 use Rattle.store.specs.Written.{Ready, placed}
-use Rattle.layout.proofs.Chain.{both}
 use Rattle.store.proofs.Placing.{a_put, store_is, put_kept}
 use Rattle.datagram.specs.declared.decode.Answer.{Answer}
 use Rattle.datagram.specs.declared.decode.Decoded.{Decoded}
-use Rattle.datagram.specs.Shown.{root, decoded, Refuses, IsRead, values_of, Accepts, ran}
+use Rattle.datagram.specs.Shown.{root, decoded, header_fields, Refuses, IsRead, values_of, Accepts, ran}
 use Rattle.datagram.proofs.OneDatagram.{start_of, begun, not_begun}
+use Rattle.xdr.specs.Shown.{Inside, place}
+use Rattle.layout.specs.Scanned.{Scan}
+use Rattle.datagram.specs.declared.header.Header.{Header}
+use Rattle.reading.proofs.Fields.{fields_out}
 
 -- the answer to a reading o
 abbrev answered : (List Value → answer.Header) → Out Found → (s w : List ℕ) → answer.Answer
@@ -85,16 +78,16 @@ module _ (head : List Value → answer.Header) (o : Out Found) (s w : List ℕ) 
     within : answered head o s w ≡ stored head o w
     within = rw (le-leb (length s) longest_input short)
 
-    stops : (x : Outcome) → refusal x ≡ counted 0 o → refused x.code x.at x.steps 0 w ≡ answered head o s w
+    stops : {x at steps : ℕ} → stop x at steps ≡ counted 0 o → refused x at steps 0 w ≡ answered head o s w
     unfolding counted stored
-    stops x u = go o u ∙ sym within
+    stops {x} {at} {steps} u = go o u ∙ sym within
       where
-        go : (o : Out Found) → refusal x ≡ counted 0 o → refused x.code x.at x.steps 0 w ≡ stored head o w
+        go : (o : Out Found) → stop x at steps ≡ counted 0 o → refused x at steps 0 w ≡ stored head o w
         go (got a p) u = never u
         go (stop c a n) u =
-            let i : x.code ≡ c = cc in
-            let j : x.at ≡ a = cc in
-            let k : x.steps ≡ n = cc in
+            let i : x ≡ c = cc in
+            let j : at ≡ a = cc in
+            let k : steps ≡ n = cc in
             rw (i, j, k)
 
     module _ (e : Cursor) (k : ℕ) (t : Whole o e k) where
@@ -140,61 +133,53 @@ module _ (s : List ℕ) {e : Cursor} {k : ℕ} (q : IsRead s e k) where
   known : Whole (follow (datagram base_mode) s (from 0)) e k
   known = scanned_whole (follow (datagram base_mode) s (from 0)) e k q.is
 
-  head_values : {d : Cursor} {vs : List Value} → Then header s (passed.Got (start_of 0)) (passed.Got d) vs → values_of (follow (datagram base_mode) s (from 0)) ≡ vs
+  head_values : {d : Cursor} {vs : List Value} → got vs (place d) ≡ fields_out header s (from 0) → values_of (follow (datagram base_mode) s (from 0)) ≡ vs
   unfolding values_of
-  head_values {d} {vs} (goes f i) =
+  head_values {d} {vs} f =
       let a = known in
-      let t = split (times (last_number vs) (follow (sample base_mode depth_limit)) s (place d)) _ (sym (begun base_mode s (start_of 0) d f) ∙ a.is) in
+      let t = split (times (last_number vs) (follow (sample base_mode depth_limit)) s (place d)) _ (sym (begun base_mode s (start_of 0) d (sym f)) ∙ a.is) in
       let g : got (whole 0 vs t.value t.place) t.place ≡ got a.found (place e) = t.second in
       let x : whole 0 vs t.value t.place ≡ a.found = cc in
       ap values_of a.is ∙ ap (λ (r : Found). r.values) (sym x)
 
-  no_halt : {x : Outcome} {vs : List Value} {A : Type 0} → Then header s (passed.Got (start_of 0)) (passed.Stop x) vs → A
-  no_halt {x} (halts f) = never (sym (not_begun base_mode s (start_of 0) x f) ∙ known.is)
+  pub never_refused : {x a n : ℕ} {A : Type 0} → stop x a n ≡ fields_out header s (from 0) → A
+  never_refused f = never (sym (not_begun base_mode s (start_of 0) (sym f)) ∙ known.is)
 
-  -- its three parts
-  module _ {p₀ p₁ p₂ : Passed} {v : ℕ} (at : ℕ) {a : Address} (t : Then (version ∷ []) s (passed.Got (start_of 0)) p₀ (number v ∷ [])) (u : Then (addr ∷ []) s p₀ p₁ (an_address a ∷ []))
-      (w : Then (words 4) s p₁ p₂ (numbers 4 s at)) where
-    pub never_refused : {x : Outcome} {r : Decoded} → p₂ ≡ passed.Stop x → Accepts s r e k
-    never_refused h = no_halt (rw h at (both (both t u) w))
-
-    pub header_known : {d : Cursor} (ws : List ℕ) → p₂ ≡ passed.Got d → loaded 4 ws ≡ numbers 4 s at → Accepts s (record {
-      answer = record { code = 0; at = e.at; steps = e.steps; needed = k };
-      agent_address = a;
-      sub_agent_id = get_or ws 0 0;
-      sequence_number = get_or ws 1 0;
-      uptime = get_or ws 2 0;
-      num_samples = get_or ws 3 0;
-    }) e k
-    unfolding header_of
-    header_known {d} ws h l =
-        let f : values_of (follow (datagram base_mode) s (from 0)) ≡ number v ∷ an_address a ∷ loaded 4 ws = head_values (rw h at (both (both t u) w)) ∙ ap (λ (ns : List Value). number v ∷ an_address a ∷ ns) (sym l) in
-        record { leaves = λ m. ap (λ (x : answer.Header). record { code = 0; at = e.at; steps = e.steps; needed = k; head = x; store = m }) (sym (ap header_of f)) }
+  pub header_known : (h : Header) {d : Cursor} → got (header_fields h) (place d) ≡ fields_out header s (from 0) → Accepts s (record {
+    answer = record { code = 0; at = e.at; steps = e.steps; needed = k };
+    agent_address = h.agent_address;
+    sub_agent_id = h.sub_agent_id;
+    sequence_number = h.sequence_number;
+    uptime = h.uptime;
+    num_samples = h.num_samples;
+  }) e k
+  unfolding header_of
+  header_known h f = record { leaves = λ m. ap (λ (x : answer.Header). record { code = 0; at = e.at; steps = e.steps; needed = k; head = x; store = m }) (sym (ap header_of (head_values f))) }
 
 module _ (mode : Mode) (s w : List ℕ) where
-  pub too_long : {d : Decoded} → Refuses d 1 0 0 0 → longest_input < length s → decoded d w ≡ one mode s w
+  pub too_long : {d : Decoded} {a : Answer} → Refuses d a → a ≡ record { code = 1; at = 0; steps = 0; needed = 0 } → longest_input < length s → decoded d w ≡ one mode s w
   unfolding one
-  too_long e h = e.leaves w ∙ beyond header_of (follow (datagram mode) s (from 0)) s w h
+  too_long e i h = e.leaves w ∙ rw i (beyond header_of (follow (datagram mode) s (from 0)) s w h)
 
-  module _ (short : length s ≤ longest_input) {j : Scanned} (i : scanned_out j ≡ counted 0 (follow (datagram mode) s (from 0))) where
-    pub stays : {x : Outcome} {d : Decoded} → j ≡ scanned.Stop x → Refuses d x.code x.at x.steps 0 → decoded d w ≡ one mode s w
+  module _ (short : length s ≤ longest_input) where
+    pub stays : {x at steps : ℕ} {d : Decoded} {a : Answer} → stop x at steps ≡ counted 0 (follow (datagram mode) s (from 0)) → Refuses d a → a ≡ record { code = x; at = at; steps = steps; needed = 0 } → decoded d w ≡ one mode s w
     unfolding one
-    stays {x} q e = e.leaves w ∙ stops header_of (follow (datagram mode) s (from 0)) s w short x (rw q at i)
+    stays q e i = e.leaves w ∙ rw i (stops header_of (follow (datagram mode) s (from 0)) s w short q)
 
-    module _ {e : Cursor} {k : ℕ} (q : j ≡ scanned.Got e k) where
+    module _ {e : Cursor} {k : ℕ} (q : got k (place e) ≡ counted 0 (follow (datagram mode) s (from 0))) where
       there : Whole (follow (datagram mode) s (from 0)) e k
-      there = scanned_whole (follow (datagram mode) s (from 0)) e k (rw q at i)
+      there = scanned_whole (follow (datagram mode) s (from 0)) e k q
 
       -- the base mode reads the same
       same : follow (datagram base_mode) s (from 0) ≡ follow (datagram mode) s (from 0)
       same = (in_base mode).is s (from 0) there.found (place e) there.is ∙ sym there.is
 
       pub is_read : IsRead s e k
-      is_read = record { is = (rw q at i) ∙ ap (counted 0) (sym same) }
+      is_read = record { is = q ∙ ap (counted 0) (sym same) }
 
-      pub no_room : {d : Decoded} → room w < k → Refuses d 9 0 e.steps k → decoded d w ≡ one mode s w
+      pub no_room : {d : Decoded} {a : Answer} → room w < k → Refuses d a → a ≡ record { code = 9; at = 0; steps = e.steps; needed = k } → decoded d w ≡ one mode s w
       unfolding one
-      no_room h f = f.leaves w ∙ lacks header_of (follow (datagram mode) s (from 0)) s w short e k there h
+      no_room h f i = f.leaves w ∙ rw i (lacks header_of (follow (datagram mode) s (from 0)) s w short e k there h)
 
       pub all_ready : k ≤ room w → Ready s w (root 0) (follow (datagram base_mode) s (from 0))
       all_ready h =
@@ -219,22 +204,20 @@ decoded_room {l} mode s w d e k c =
     let z = has_room header_of (follow (datagram mode) s (from 0)) s w (sym x ∙ c) in
     rw y (omega (arith, z))
 
-pub ruleset deciding = (at_start, too_long, stays, is_read, no_room, all_ready, all_stored, put_kept, rules)
-
 -- ---- a run
 module _ (mode : Mode) (s w : List ℕ) where
   pub run_too_long : longest_input < length s → refused 1 0 0 0 w ≡ run mode s w
   unfolding run run_from
   run_too_long h = beyond (λ _. no_header) (run_from mode s (from 0)) s w h
 
-  module _ (short : length s ≤ longest_input) {m : Scanned} (i : scanned_out m ≡ counted 0 (run_from mode s (from 0))) where
-    pub run_stays : {x : Outcome} → m ≡ scanned.Stop x → refused x.code x.at x.steps 0 w ≡ run mode s w
+  module _ (short : length s ≤ longest_input) where
+    pub run_stays : {x at steps : ℕ} → stop x at steps ≡ counted 0 (run_from mode s (from 0)) → refused x at steps 0 w ≡ run mode s w
     unfolding run run_from
-    run_stays {x} q = stops (λ _. no_header) (run_from mode s (from 0)) s w short x (rw q at i)
+    run_stays q = stops (λ _. no_header) (run_from mode s (from 0)) s w short q
 
-    module _ {e : Cursor} {k : ℕ} (q : m ≡ scanned.Got e k) where
+    module _ {e : Cursor} {k : ℕ} (q : got k (place e) ≡ counted 0 (run_from mode s (from 0))) where
       run_there : Whole (run_from mode s (from 0)) e k
-      run_there = scanned_whole (run_from mode s (from 0)) e k (rw q at i)
+      run_there = scanned_whole (run_from mode s (from 0)) e k q
 
       pub run_no_room : room w < k → refused 9 0 e.steps k w ≡ run mode s w
       unfolding run run_from
@@ -284,5 +267,3 @@ ran_room {l} mode s w d e k c =
     let y : d.needed ≡ (answered (λ _. no_header) (run_from mode s (from 0)) s w).needed = ap (λ (r : answer.Answer). r.needed) e in
     let z = has_room (λ _. no_header) (run_from mode s (from 0)) s w (sym x ∙ c) in
     rw y (omega (arith, z))
-
-pub ruleset deciding-run = (run_too_long, run_stays, run_no_room, run_inside, run_part, run_ready, run_end, run_stored, run_kept, rules)

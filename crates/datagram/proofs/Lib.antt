@@ -1,6 +1,5 @@
-pub mod Version
-pub mod Deciding
 pub mod OneDatagram
 pub mod Running
+pub mod Deciding
 pub mod Lossless
 pub mod Contracts

@@ -1,18 +1,14 @@
 -- What is shown of this crate's results loses nothing: an answer with the store that it leaves, a header's fields, what a pass has come to.
 -- Assumes nothing.
-use Prim.Native.Nat.{ℕ}
-use mathlib.Core.Path.{◌≡◌, refl}
-use mathlib.Core.List.{List}
-use Rattle.reading.specs.Cursor.{Out, got, stop}
+use Rattle.std.proofs.Common.{ℕ, ◌≡◌, refl, List, get_or}
+use Rattle.reading.specs.Script.{Value, number}
 use Rattle.reading.specs.Answer as answer
-use Rattle.reading.specs.Answer.{Fields}
-use Rattle.xdr.specs.Shown.{answer_of}
+use Rattle.reading.specs.Layout.{num}
+use Rattle.xdr.specs.Shown.{read_out}
 use Rattle.xdr.proofs.Settles.{Lossless, got_back}
-use Rattle.xdr.proofs.Lossless.{outcome_of, word_at, address_at}
-use Rattle.layout.specs.declared.frames.Scanned.{Scanned}
-use Rattle.layout.specs.declared.frames.Scanned.TheVariants as scanned
+use Rattle.xdr.proofs.Lossless.{address_of, read_lossless}
+use Rattle.layout.specs.Shown.{scanned_out}
 use Rattle.store.specs.declared.Written.{Written}
-use Rattle.layout.specs.Scanned.{scanned_out}
 use Rattle.store.specs.Written.{Put, written}
 use Rattle.datagram.specs.declared.decode.Answer.{Answer}
 use Rattle.datagram.specs.declared.decode.Decoded.{Decoded}
@@ -40,21 +36,19 @@ decoded_lossless = got_back
 pub ran_lossless : Lossless (λ (r : Answer × List ℕ). ran r.0 r.1)
 ran_lossless = got_back (λ (x : answer.Answer). (numbers x, x.store)) (λ r. refl)
 
-pub header_lossless : Lossless (λ (r : Header). answer_of r.outcome (header_fields r))
-header_lossless = got_back (λ (x : Fields). record { outcome = outcome_of x; version = word_at x 0; agent_address = address_at x 1; sub_agent_id = word_at x 2; sequence_number = word_at x 3; uptime = word_at x 4; num_samples = word_at x 5 }) (λ r. refl)
+-- ---- what the two passes answer, and the header's reader
 
--- ---- what the two passes answer
+abbrev value_at : List Value → ℕ → Value
+value_at vs i = get_or vs i (number 0)
 
-abbrev scanned_back : Out ℕ → Scanned
-scanned_back (got k p) = scanned.Got (record { at = p.at; steps = p.steps }) k
-scanned_back (stop c a n) = scanned.Stop (record { code = c; at = a; steps = n })
+abbrev header_back : List Value → Header
+header_back vs = record { version = num (value_at vs 0); agent_address = address_of (value_at vs 1); sub_agent_id = num (value_at vs 2); sequence_number = num (value_at vs 3); uptime = num (value_at vs 4); num_samples = num (value_at vs 5) }
+
+pub header_lossless : Lossless (read_out header_fields)
+header_lossless = read_lossless header_fields header_back (λ r. refl)
 
 pub scanned_lossless : Lossless scanned_out
-scanned_lossless = got_back scanned_back same
-  where
-    same : (r : Scanned) → scanned_back (scanned_out r) ≡ r
-    same (scanned.Got c k) = refl
-    same (scanned.Stop x) = refl
+scanned_lossless = read_lossless (λ k. k) (λ k. k) (λ k. refl)
 
 pub written_lossless : Lossless (λ (r : Written × List ℕ). written r.0 r.1)
 written_lossless = got_back (λ (x : Put). (record { at = x.at; word = x.word }, x.store)) (λ r. refl)

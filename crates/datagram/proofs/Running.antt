@@ -21,50 +21,43 @@ use Rattle.reading.proofs.Stored.{write, write_length, write_none, write_rest, r
 use Rattle.reading.proofs.Places.{ranges_of, end_of, given}
 use Rattle.reading.proofs.Forward.{forward}
 use Rattle.xdr.specs.declared.Cursor.{Cursor}
-use Rattle.xdr.specs.declared.Outcome.{Outcome}
-use Rattle.xdr.specs.Shown.{place, refusal}
-use Rattle.layout.specs.declared.frames.Scanned.{Scanned}
-use Rattle.layout.specs.declared.frames.Scanned.TheVariants as scanned
+use Rattle.xdr.specs.declared.Reason.{Reason}
+use Rattle.xdr.specs.declared.Reason.TheVariants.{InputTooLong, Cut, Version, AddressType, OpaqueTooLong, HeaderProtocol, IllFormed, TooDeep, NoRoom, OutsideInput, OtherFormat}
+use Rattle.xdr.specs.Shown.{code_of, place}
 use Rattle.store.specs.declared.Written.{Written}
-use Rattle.layout.specs.Scanned.{Scan, scanned_out}
+use Rattle.layout.specs.Scanned.{Scan}
 use Rattle.store.specs.Written.{Ready, Put, written, placed}
 use Rattle.layout.proofs.Scan.{scan_on}
 use Rattle.store.proofs.Placing.{a_put, two_placed, at_is, word_is, store_is, put_kept}
 use Rattle.datagram.specs.Shown.{root, pen_at}
 
 -- ---- the first pass
-module _ (mode : Mode) (s : List ℕ) (c : Cursor) (k : ℕ) {j : Scanned} (i : scanned_out j ≡ counted k (follow (datagram mode) s (place c))) where
-  module _ {d : Cursor} {m : ℕ} (w : j ≡ scanned.Got d m) where
-    outcome : got m (place d) ≡ counted k (follow (datagram mode) s (place c))
-    outcome = rw w at i
-
+module _ (mode : Mode) (s : List ℕ) (c : Cursor) (k : ℕ) where
+  module _ {d : Cursor} {m : ℕ} (e : got m (place d) ≡ counted k (follow (datagram mode) s (place c))) where
     pub scanned_on : Scan s c k → Scan s d m
-    scanned_on g = scan_on (datagram mode) s c k i w g (record { is = thrifty_datagram mode depth_limit })
+    scanned_on g = scan_on (datagram mode) (record { is = thrifty_datagram mode depth_limit }) s c k g e
 
-    pub scanned_less : (t : ℕ) → Scan s c k → c.at < length s → length s - c.at ≡ t → length s - d.at < t
+    pub scanned_less : Scan s c k → c.at < length s → length s - d.at < length s - c.at
     unfolding counted
-    scanned_less t g h e = go (follow (datagram mode) s (place c)) refl outcome
+    scanned_less g h = go (follow (datagram mode) s (place c)) refl e
       where
-        go : (o : Out Found) → follow (datagram mode) s (place c) ≡ o → got m (place d) ≡ counted k o → length s - d.at < t
+        go : (o : Out Found) → follow (datagram mode) s (place c) ≡ o → got m (place d) ≡ counted k o → length s - d.at < length s - c.at
         go (got a q) f u =
             let x : place d ≡ q = cc in
             let y = ap (λ (r : Place). r.at) x in
             let z = datagram_on mode depth_limit s (place c) g.inside f in
-            omega (arith, z.0, y, e, h)
+            omega (arith, z.0, y, h)
         go (stop x a n) f u = never (sym u)
 
     pub scanned_turn : {t : Out ℕ} → counted k (run_from mode s (place c)) ≡ t → c.at < length s → counted m (run_from mode s (place d)) ≡ t
-    scanned_turn e h = sym (run_got mode s (place c) k h (sym outcome)) ∙ e
+    scanned_turn f h = sym (run_got mode s (place c) k h (sym e)) ∙ f
 
-  module _ {x : Outcome} (w : j ≡ scanned.Stop x) {t : Out ℕ} (e : counted k (run_from mode s (place c)) ≡ t) (h : c.at < length s) where
-    refused : refusal x ≡ counted k (follow (datagram mode) s (place c))
-    refused = rw w at i
+  module _ {x at steps : ℕ} (w : stop x at steps ≡ counted k (follow (datagram mode) s (place c))) {t : Out ℕ} (e : counted k (run_from mode s (place c)) ≡ t) (h : c.at < length s) where
+    pub scanned_ends : x ≡ 2 → got k (record { at = c.at; steps = steps }) ≡ t
+    scanned_ends z = sym (run_ends mode s (place c) k h (sym w) z) ∙ e
 
-    pub scanned_ends : x.code ≡ 2 → got k (record { at = c.at; steps = x.steps }) ≡ t
-    scanned_ends z = sym (run_ends mode s (place c) k h (sym refused) z) ∙ e
-
-    pub scanned_stops : (x.code ≡ 2 → ⊥) → refusal x ≡ t
-    scanned_stops z = sym (run_stops mode s (place c) k h (sym refused) z) ∙ e
+    pub scanned_stops : (x ≡ 2 → ⊥) → stop x at steps ≡ t
+    scanned_stops z = sym (run_stops mode s (place c) k h (sym w) z) ∙ e
 
 pub scanned_over : {t : Out ℕ} (mode : Mode) (s : List ℕ) (c : Cursor) (k : ℕ) → counted k (run_from mode s (place c)) ≡ t → length s ≤ c.at → got k (place c) ≡ t
 unfolding counted size
@@ -140,13 +133,13 @@ module _ (s l : List ℕ) (cur end w : ℕ) (g : Ready s l (pen_at w) (run_from 
       next : v.word ≡ w + descriptor_words * size (ranges_of (follow (datagram base_mode) s (from cur)))
       next = word_is (pen_at w) _ l e
 
-      pub next_less : (t : ℕ) → end - cur ≡ t → end - v.at < t
+      pub next_less : end - v.at < end - cur
       unfolding end_of
-      next_less t u =
+      next_less =
           let a = given (follow (datagram base_mode) s (from cur)) parts.first in
           let b = datagram_on base_mode depth_limit s (from cur) i a.is in
           let c : v.at ≡ a.last.at = here ∙ ap end_of a.is in
-          omega (arith, b.0, c, u, h)
+          omega (arith, b.0, c, h)
 
       pub next_inside : v.at ≤ length s
       next_inside = let f = forward (datagram base_mode) s cur i parts.first in let y = here in omega (arith, f.1, y)
@@ -165,26 +158,16 @@ module _ (s l : List ℕ) (cur end w : ℕ) (g : Ready s l (pen_at w) (run_from 
       unfolding placed
       next_placed {t} u = rw here (two_placed 0 nobody w l (ranges_of (follow (datagram base_mode) s (from cur))) (ranges_of (run_from base_mode s (from (end_of (follow (datagram base_mode) s (from cur)))))) refl parts.end parts.ranges next (store_is (pen_at w) _ l e)) ∙ u
 
-pub ruleset running = (
-  scanned_on,
-  scanned_less,
-  scanned_turn,
-  scanned_ends,
-  scanned_stops,
-  scanned_over,
-  part_start,
-  part_index,
-  part_ready,
-  part_more,
-  part_kept,
-  part_placed,
-  run_all,
-  first_ready,
-  next_less,
-  next_inside,
-  next_end,
-  next_ready,
-  next_placed,
-  put_kept,
-  rules,
-)
+-- only a cut has code 2
+pub other_code : (r : Reason) → (r ≡ Cut → ⊥) → code_of r ≡ 2 → ⊥
+other_code Cut n e = n refl
+other_code InputTooLong n e = absurd (omega arith)
+other_code Version n e = absurd (omega arith)
+other_code AddressType n e = absurd (omega arith)
+other_code OpaqueTooLong n e = absurd (omega arith)
+other_code HeaderProtocol n e = absurd (omega arith)
+other_code IllFormed n e = absurd (omega arith)
+other_code TooDeep n e = absurd (omega arith)
+other_code NoRoom n e = absurd (omega arith)
+other_code OutsideInput n e = absurd (omega arith)
+other_code OtherFormat n e = absurd (omega arith)

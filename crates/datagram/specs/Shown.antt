@@ -2,18 +2,13 @@
 use Rattle.std.specs.Prelude.{ℕ, ◌≡◌, List, [], ◌∷◌}
 use Rattle.reading.specs.Script.{Value, number, Found}
 use Rattle.reading.specs.Cursor.{Out, got, stop, follow}
-use Rattle.reading.specs.Layout.{base as base_mode, words, version, addr, datagram}
+use Rattle.reading.specs.Layout.{base as base_mode, datagram}
 use Rattle.reading.specs.Answer as answer
 use Rattle.reading.specs.Answer.{from, nobody, header_of, no_header, refused}
 use Rattle.reading.proofs.Counts.{counted}
-use Rattle.reading.proofs.Words.{numbers}
 use Rattle.xdr.specs.declared.Cursor.{Cursor}
-use Rattle.xdr.specs.declared.Passed.{Passed}
-use Rattle.xdr.specs.declared.Passed.TheVariants as passed
 use Rattle.xdr.specs.Shown.{place, an_address}
-use Rattle.layout.specs.declared.field.WordsAt.{WordsAt}
 use Rattle.store.specs.declared.Pen.{Pen}
-use Rattle.layout.specs.Chain.{Then, Ends, There}
 use Rattle.datagram.specs.declared.decode.Answer.{Answer}
 use Rattle.datagram.specs.declared.decode.Decoded.{Decoded}
 use Rattle.datagram.specs.declared.header.Header.{Header}
@@ -22,13 +17,6 @@ abbrev pub header_fields : Header → List Value
 header_fields r =
     number r.version ∷ an_address r.agent_address ∷ number r.sub_agent_id ∷ number r.sequence_number ∷ number r.uptime
     ∷ number r.num_samples ∷ []
-
--- a header that is passed, by where its four words begin
-pub record Heads (s : List ℕ) (c : Cursor) (r : WordsAt) : Type 0 where
-  pub behind : Passed
-  pub first : Ends (version ∷ addr ∷ []) s (passed.Got c) behind
-  pub rest : Then (words 4) s behind r.passed (numbers 4 s r.at)
-  pub there : There 4 s r.passed r.at
 
 -- where a datagram's own descriptor goes: it has no parent
 abbrev pub root : ℕ → Pen
@@ -57,8 +45,8 @@ decoded r w = record {
 }
 
 -- a refusal: the header is all zero, and any store stays as it was
-pub record Refuses (r : Decoded) (code at steps needed : ℕ) : Type 0 where
-  pub leaves : (w : List ℕ) → decoded r w ≡ refused code at steps needed w
+pub record Refuses (r : Decoded) (a : Answer) : Type 0 where
+  pub leaves : (w : List ℕ) → decoded r w ≡ record { code = a.code; at = a.at; steps = a.steps; needed = a.needed; head = no_header; store = w }
 
 -- a datagram that was read up to e, with k descriptors: what is read in any mode is read so in the base mode
 pub record IsRead (s : List ℕ) (e : Cursor) (k : ℕ) : Type 0 where

@@ -1,16 +1,19 @@
 // One datagram, for any input and any store.
 ghost use Rattle.std.specs.Prelude.{◌≡◌};
 ghost use Rattle.reading.specs.Answer.{one};
-ghost use Rattle.layout.specs.Chain.{mode_of};
+ghost use Rattle.xdr.specs.Shown.{code_of};
+ghost use Rattle.layout.specs.Shown.{mode_of};
 ghost use Rattle.datagram.specs.Shown.{decoded, Refuses, IsRead, Accepts};
 
-use crate::header::version_at;
+use crate::header::Header;
 use crate::one::{put_datagram, scan_datagram};
-use layout::field;
 use layout::field::Mode;
-use layout::frames::Scanned;
+use layout::record::Record;
 use store::DESCRIPTOR_WORDS;
-use xdr::{Address, Cursor, MAX_INPUT_SIZE, Passed};
+use xdr::{Address, Cursor, MAX_INPUT_SIZE, Reason, Refusal};
+
+// Where every reading begins.
+pub const START: Cursor = Cursor { at: 0, steps: 0 };
 
 // What a call answers: its code (docs/RULES.md, 5), the position, the steps, and the descriptors needed.
 #[repr(C)]
@@ -34,20 +37,42 @@ pub struct Decoded {
     pub num_samples: u32,
 }
 
+impl From<Refusal> for Answer {
+    ghost from_gives = { λ x a. a ≡ record { code = code_of x.reason; at = x.at; steps = x.steps; needed = 0 } };
+
+    fn from(x: Refusal) -> Answer {
+        Answer {
+            code: x.reason.code(),
+            at: x.at,
+            steps: x.steps,
+            needed: 0,
+        }
+    }
+}
+
+impl Answer {
+    // So many descriptors are needed, and the store has no room for them; all was read up to `end`.
+    pub fn no_room(end: Cursor, needed: usize) -> Answer
+        ensures { result ≡ record { code = 9; at = 0; steps = end.steps; needed = needed } }
+    {
+        Answer {
+            code: Reason::NoRoom.code(),
+            at: 0,
+            steps: end.steps,
+            needed,
+        }
+    }
+}
+
 impl Decoded {
-    fn refused(code: u32, at: usize, steps: usize, needed: usize) -> Decoded
-        ensures { Refuses result code at steps needed }
+    fn refused(answer: Answer) -> Decoded
+        ensures { Refuses result answer }
     {
         Decoded {
-            answer: Answer {
-                code: code,
-                at: at,
-                steps: steps,
-                needed: needed,
-            },
+            answer,
             agent_address: Address {
                 kind: 0,
-                bytes: [0u8; 16],
+                bytes: [0; 16],
             },
             sub_agent_id: 0,
             sequence_number: 0,
@@ -55,36 +80,27 @@ impl Decoded {
             num_samples: 0,
         }
     }
+
     // All was read up to e, with k descriptors. The header is read once more: the first pass keeps nothing of it.
     fn accepted(s: &[u8], e: Cursor, k: usize) -> Decoded
         requires { IsRead s.now e k }
         ensures { Accepts s.now result e k }
     {
-        let first = version_at(Cursor { at: 0, steps: 0 }, s);
-        let passed = first.passed;
-        let agent = field::address(passed, s);
-        let passed = agent.passed;
-        let agent_address = agent.address;
-        let row = field::words(passed, s, 4);
-        let passed = row.passed;
-        match passed {
-            Passed::Stop(r) => Decoded::refused(r.code, r.at, r.steps, 0),
-            Passed::Got(_) => {
-                let words = field::load_words(s, row.at, 4);
-                Decoded {
-                    answer: Answer {
-                        code: 0,
-                        at: e.at,
-                        steps: e.steps,
-                        needed: k,
-                    },
-                    agent_address: agent_address,
-                    sub_agent_id: words[0],
-                    sequence_number: words[1],
-                    uptime: words[2],
-                    num_samples: words[3],
-                }
-            }
+        match Header::read(START, s, Mode::Base) {
+            Err(x) => Decoded::refused(x.into()),
+            Ok((header, _)) => Decoded {
+                answer: Answer {
+                    code: 0,
+                    at: e.at,
+                    steps: e.steps,
+                    needed: k,
+                },
+                agent_address: header.agent_address,
+                sub_agent_id: header.sub_agent_id,
+                sequence_number: header.sequence_number,
+                uptime: header.uptime,
+                num_samples: header.num_samples,
+            },
         }
     }
 }
@@ -94,13 +110,13 @@ pub fn decode(s: &[u8], store: &mut [u32], mode: Mode) -> Decoded
     ensures { decoded result store.new ≡ one (mode_of mode) s.now store.old }
 {
     if MAX_INPUT_SIZE < s.len() {
-        return Decoded::refused(1, 0, 0, 0);
+        return Decoded::refused(START.refusal(Reason::InputTooLong).into());
     }
-    match scan_datagram(s, Cursor { at: 0, steps: 0 }, mode, 0) {
-        Scanned::Stop(r) => Decoded::refused(r.code, r.at, r.steps, 0),
-        Scanned::Got(e, k) => {
+    match scan_datagram(s, START, mode, 0) {
+        Err(x) => Decoded::refused(x.into()),
+        Ok((k, e)) => {
             if store.len() / DESCRIPTOR_WORDS < k {
-                return Decoded::refused(9, 0, e.steps, k);
+                return Decoded::refused(Answer::no_room(e, k));
             }
             put_datagram(s, 0, store, 0);
             Decoded::accepted(s, e, k)

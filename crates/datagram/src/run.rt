@@ -8,46 +8,45 @@ ghost use Rattle.reading.proofs.Counts.{counted};
 ghost use Rattle.reading.proofs.Places.{ranges_of, end_of};
 ghost use Rattle.reading.proofs.Runs.{run_from};
 ghost use Rattle.reading.proofs.Stored.{write};
-ghost use Rattle.layout.specs.Chain.{mode_of};
-ghost use Rattle.layout.specs.Scanned.{scanned_out};
+ghost use Rattle.layout.specs.Shown.{mode_of, scanned_out};
 ghost use Rattle.store.specs.Written.{Ready, written, placed};
 ghost use Rattle.datagram.specs.Shown.{root, pen_at, ran};
 
-use crate::decode::Answer;
+use crate::decode::{Answer, START};
 use crate::one::{put_datagram, scan_datagram};
 use layout::field::Mode;
 use layout::frames::Scanned;
 use store::{DESCRIPTOR_WORDS, Written, index_at};
-use xdr::{Cursor, MAX_INPUT_SIZE};
+use xdr::{Cursor, MAX_INPUT_SIZE, Reason};
 
 // The first pass. Code 2 ends the run where the datagram that it stops began.
 fn scan_run(s: &[u8], mode: Mode) -> Scanned
     requires { length s.now ≤ longest_input }
     ensures { scanned_out result ≡ counted 0 (run_from (mode_of mode) s.now (from 0)) }
 {
-    let mut cur = Cursor { at: 0, steps: 0 };
+    let mut cur = START;
     let mut found = 0;
     while cur.at < s.len() {
         match scan_datagram(s, cur, mode, found) {
-            Scanned::Stop(r) => {
-                if r.code == 2 {
-                    return Scanned::Got(
-                        Cursor {
-                            at: cur.at,
-                            steps: r.steps,
-                        },
-                        found,
-                    );
-                }
-                return Scanned::Stop(r);
-            }
-            Scanned::Got(d, k) => {
+            Ok((k, d)) => {
                 cur = d;
                 found = k;
             }
+            Err(x) => {
+                return match x.reason {
+                    Reason::Cut => Ok((
+                        found,
+                        Cursor {
+                            at: cur.at,
+                            steps: x.steps,
+                        },
+                    )),
+                    _ => Err(x),
+                };
+            }
         }
     }
-    Scanned::Got(cur, found)
+    Ok((found, cur))
 }
 
 // One datagram of a run, whose first descriptor begins at a word: the rest of the store is lent to its writer.
@@ -83,28 +82,13 @@ pub fn decode_run(s: &[u8], store: &mut [u32], mode: Mode) -> Answer
     ensures { ran result store.new ≡ run (mode_of mode) s.now store.old }
 {
     if MAX_INPUT_SIZE < s.len() {
-        return Answer {
-            code: 1,
-            at: 0,
-            steps: 0,
-            needed: 0,
-        };
+        return START.refusal(Reason::InputTooLong).into();
     }
     match scan_run(s, mode) {
-        Scanned::Stop(r) => Answer {
-            code: r.code,
-            at: r.at,
-            steps: r.steps,
-            needed: 0,
-        },
-        Scanned::Got(e, k) => {
+        Err(x) => x.into(),
+        Ok((k, e)) => {
             if store.len() / DESCRIPTOR_WORDS < k {
-                return Answer {
-                    code: 9,
-                    at: 0,
-                    steps: e.steps,
-                    needed: k,
-                };
+                return Answer::no_room(e, k);
             }
             put_run(&s[..e.at], store);
             Answer {

@@ -34,7 +34,7 @@ integer_of (octets b) = pos 0
 integer_of (address t b) = pos 0
 integer_of (part x) = pos 0
 
-abbrev address_of : Value → Address
+abbrev pub address_of : Value → Address
 address_of v = record { kind = kind_of v; bytes = oct v }
 
 pub span_lossless : Lossless span
