@@ -34,7 +34,8 @@ def uses(layouts):
 def source(file, about, layouts):
     names = ['fields::ask::read', 'fields::descriptor::Words', 'layout::field::Mode', 'layout::record::Reading']
     names += ['%s::%s::%s' % (one.crate, 'header' if one.by_hand else file, one.type) for one in layouts]
-    lines = ['// ' + MADE, '// ' + about, 'ghost use Rattle.std.specs.Prelude.{◌≡◌};', 'ghost use Rattle.reading.specs.Layout.{memo};',
+    lines = ['// ' + MADE, '// ' + about, '// Each layout has a function of its own, by whose name C asks for it.',
+             'ghost use Rattle.std.specs.Prelude.{◌≡◌};', 'ghost use Rattle.reading.specs.Layout.{memo};',
              'ghost use Rattle.xdr.specs.Shown.{answer_of};', *('ghost %s;' % line for line in uses(layouts)),
              'ghost use Rattle.fields.specs.Shown.{read_at};', '', *imports(names)]
     return '\n'.join(lines) + '\n' + ''.join(CALL % said(one) for one in layouts)

@@ -1,5 +1,6 @@
 // Made by layouts/make from layouts/table.
 // What a switch, a router or a server adds to a sampled packet.
+// Each layout has a function of its own, by whose name C asks for it.
 ghost use Rattle.std.specs.Prelude.{◌≡◌};
 ghost use Rattle.reading.specs.Layout.{memo};
 ghost use Rattle.xdr.specs.Shown.{answer_of};

@@ -1,5 +1,6 @@
 // Made by layouts/make from layouts/table.
 // 802.11: what was sent or received by radio.
+// Each layout has a function of its own, by whose name C asks for it.
 ghost use Rattle.std.specs.Prelude.{◌≡◌};
 ghost use Rattle.reading.specs.Layout.{memo};
 ghost use Rattle.xdr.specs.Shown.{answer_of};

@@ -32,7 +32,7 @@ pub extern "C" fn latchplume_decode_run_base(s: &[u8], store: &mut [u32]) -> Ans
     host_base::latchplume_decode_run_base(s, store)
 }
 
-// What C gets of a reading of SampledEthernet.
+// What C gets of a reading of SampledEthernet, since no generic struct goes to C.
 #[repr(C)]
 #[derive(Clone, Copy)]
 pub struct SampledEthernetReading {

@@ -1,5 +1,6 @@
 // Made by tools/exports from crates/host.
 // What a switch, a router or a server adds to a sampled packet.
+// Each layout has a function of its own, by whose name C asks for it.
 ghost use Rattle.std.specs.Prelude.{◌≡◌};
 ghost use Rattle.reading.specs.Layout.{memo};
 ghost use Rattle.xdr.specs.Shown.{answer_of};
@@ -14,7 +15,7 @@ use flow_layouts::extended::{
 use layout::record::Reading;
 use xdr::Outcome;
 
-// What C gets of a reading of ExtendedSwitch.
+// What C gets of a reading of ExtendedSwitch, since no generic struct goes to C.
 #[repr(C)]
 #[derive(Clone, Copy)]
 pub struct ExtendedSwitchReading {
@@ -30,7 +31,7 @@ pub extern "C" fn latchplume_read_extended_switch(s: &[u8], d: &Words) -> Extend
     ExtendedSwitchReading { outcome, fields }
 }
 
-// What C gets of a reading of ExtendedRouter.
+// What C gets of a reading of ExtendedRouter, since no generic struct goes to C.
 #[repr(C)]
 #[derive(Clone, Copy)]
 pub struct ExtendedRouterReading {
@@ -46,7 +47,7 @@ pub extern "C" fn latchplume_read_extended_router(s: &[u8], d: &Words) -> Extend
     ExtendedRouterReading { outcome, fields }
 }
 
-// What C gets of a reading of ExtendedGateway.
+// What C gets of a reading of ExtendedGateway, since no generic struct goes to C.
 #[repr(C)]
 #[derive(Clone, Copy)]
 pub struct ExtendedGatewayReading {
@@ -62,7 +63,7 @@ pub extern "C" fn latchplume_read_extended_gateway(s: &[u8], d: &Words) -> Exten
     ExtendedGatewayReading { outcome, fields }
 }
 
-// What C gets of a reading of ExtendedUser.
+// What C gets of a reading of ExtendedUser, since no generic struct goes to C.
 #[repr(C)]
 #[derive(Clone, Copy)]
 pub struct ExtendedUserReading {
@@ -78,7 +79,7 @@ pub extern "C" fn latchplume_read_extended_user(s: &[u8], d: &Words) -> Extended
     ExtendedUserReading { outcome, fields }
 }
 
-// What C gets of a reading of ExtendedUrl.
+// What C gets of a reading of ExtendedUrl, since no generic struct goes to C.
 #[repr(C)]
 #[derive(Clone, Copy)]
 pub struct ExtendedUrlReading {
@@ -94,7 +95,7 @@ pub extern "C" fn latchplume_read_extended_url(s: &[u8], d: &Words) -> ExtendedU
     ExtendedUrlReading { outcome, fields }
 }
 
-// What C gets of a reading of ExtendedNat.
+// What C gets of a reading of ExtendedNat, since no generic struct goes to C.
 #[repr(C)]
 #[derive(Clone, Copy)]
 pub struct ExtendedNatReading {
@@ -110,7 +111,7 @@ pub extern "C" fn latchplume_read_extended_nat(s: &[u8], d: &Words) -> ExtendedN
     ExtendedNatReading { outcome, fields }
 }
 
-// What C gets of a reading of ExtendedVlanTunnel.
+// What C gets of a reading of ExtendedVlanTunnel, since no generic struct goes to C.
 #[repr(C)]
 #[derive(Clone, Copy)]
 pub struct ExtendedVlanTunnelReading {

@@ -1,5 +1,6 @@
 // Made by tools/exports from crates/host.
 // Heads: the fields of a datagram or of a sample, before what it holds.
+// Each layout has a function of its own, by whose name C asks for it.
 ghost use Rattle.std.specs.Prelude.{◌≡◌};
 ghost use Rattle.reading.specs.Layout.{memo};
 ghost use Rattle.xdr.specs.Shown.{answer_of};
@@ -15,7 +16,7 @@ use samples::heads::{
 };
 use xdr::Outcome;
 
-// What C gets of a reading of Header.
+// What C gets of a reading of Header, since no generic struct goes to C.
 #[repr(C)]
 #[derive(Clone, Copy)]
 pub struct HeaderReading {
@@ -31,7 +32,7 @@ pub extern "C" fn latchplume_read_header(s: &[u8], d: &Words) -> HeaderReading
     HeaderReading { outcome, fields }
 }
 
-// What C gets of a reading of FlowSample.
+// What C gets of a reading of FlowSample, since no generic struct goes to C.
 #[repr(C)]
 #[derive(Clone, Copy)]
 pub struct FlowSampleReading {
@@ -47,7 +48,7 @@ pub extern "C" fn latchplume_read_flow_sample(s: &[u8], d: &Words) -> FlowSample
     FlowSampleReading { outcome, fields }
 }
 
-// What C gets of a reading of CountersSample.
+// What C gets of a reading of CountersSample, since no generic struct goes to C.
 #[repr(C)]
 #[derive(Clone, Copy)]
 pub struct CountersSampleReading {
@@ -63,7 +64,7 @@ pub extern "C" fn latchplume_read_counters_sample(s: &[u8], d: &Words) -> Counte
     CountersSampleReading { outcome, fields }
 }
 
-// What C gets of a reading of FlowSampleExpanded.
+// What C gets of a reading of FlowSampleExpanded, since no generic struct goes to C.
 #[repr(C)]
 #[derive(Clone, Copy)]
 pub struct FlowSampleExpandedReading {
@@ -82,7 +83,7 @@ pub extern "C" fn latchplume_read_flow_sample_expanded(
     FlowSampleExpandedReading { outcome, fields }
 }
 
-// What C gets of a reading of CountersSampleExpanded.
+// What C gets of a reading of CountersSampleExpanded, since no generic struct goes to C.
 #[repr(C)]
 #[derive(Clone, Copy)]
 pub struct CountersSampleExpandedReading {
@@ -101,7 +102,7 @@ pub extern "C" fn latchplume_read_counters_sample_expanded(
     CountersSampleExpandedReading { outcome, fields }
 }
 
-// What C gets of a reading of DiscardedPacket.
+// What C gets of a reading of DiscardedPacket, since no generic struct goes to C.
 #[repr(C)]
 #[derive(Clone, Copy)]
 pub struct DiscardedPacketReading {

@@ -18,7 +18,7 @@ pub extern "C" fn latchplume_list_word(s: &[u8], start: usize, count: usize, ind
     host::lists::latchplume_list_word(s, start, count, index)
 }
 
-// What C gets of a reading of Segment.
+// What C gets of a reading of Segment, since no generic struct goes to C.
 #[repr(C)]
 #[derive(Clone, Copy)]
 pub struct SegmentReading {

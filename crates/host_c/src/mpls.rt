@@ -1,5 +1,6 @@
 // Made by tools/exports from crates/host.
 // MPLS: the labels of a packet, and the path that it takes.
+// Each layout has a function of its own, by whose name C asks for it.
 ghost use Rattle.std.specs.Prelude.{◌≡◌};
 ghost use Rattle.reading.specs.Layout.{memo};
 ghost use Rattle.xdr.specs.Shown.{answer_of};
@@ -13,7 +14,7 @@ use flow_layouts::mpls::{
 use layout::record::Reading;
 use xdr::Outcome;
 
-// What C gets of a reading of ExtendedMpls.
+// What C gets of a reading of ExtendedMpls, since no generic struct goes to C.
 #[repr(C)]
 #[derive(Clone, Copy)]
 pub struct ExtendedMplsReading {
@@ -29,7 +30,7 @@ pub extern "C" fn latchplume_read_extended_mpls(s: &[u8], d: &Words) -> Extended
     ExtendedMplsReading { outcome, fields }
 }
 
-// What C gets of a reading of ExtendedMplsTunnel.
+// What C gets of a reading of ExtendedMplsTunnel, since no generic struct goes to C.
 #[repr(C)]
 #[derive(Clone, Copy)]
 pub struct ExtendedMplsTunnelReading {
@@ -48,7 +49,7 @@ pub extern "C" fn latchplume_read_extended_mpls_tunnel(
     ExtendedMplsTunnelReading { outcome, fields }
 }
 
-// What C gets of a reading of ExtendedMplsVc.
+// What C gets of a reading of ExtendedMplsVc, since no generic struct goes to C.
 #[repr(C)]
 #[derive(Clone, Copy)]
 pub struct ExtendedMplsVcReading {
@@ -64,7 +65,7 @@ pub extern "C" fn latchplume_read_extended_mpls_vc(s: &[u8], d: &Words) -> Exten
     ExtendedMplsVcReading { outcome, fields }
 }
 
-// What C gets of a reading of ExtendedMplsFec.
+// What C gets of a reading of ExtendedMplsFec, since no generic struct goes to C.
 #[repr(C)]
 #[derive(Clone, Copy)]
 pub struct ExtendedMplsFecReading {
@@ -80,7 +81,7 @@ pub extern "C" fn latchplume_read_extended_mpls_fec(s: &[u8], d: &Words) -> Exte
     ExtendedMplsFecReading { outcome, fields }
 }
 
-// What C gets of a reading of ExtendedMplsLvpFec.
+// What C gets of a reading of ExtendedMplsLvpFec, since no generic struct goes to C.
 #[repr(C)]
 #[derive(Clone, Copy)]
 pub struct ExtendedMplsLvpFecReading {

@@ -1,5 +1,6 @@
 // Made by tools/exports from crates/host.
 // What was polled: the counters of an interface, of a VLAN and of the processor.
+// Each layout has a function of its own, by whose name C asks for it.
 ghost use Rattle.std.specs.Prelude.{◌≡◌};
 ghost use Rattle.reading.specs.Layout.{memo};
 ghost use Rattle.xdr.specs.Shown.{answer_of};
@@ -14,7 +15,7 @@ use fields::descriptor::Words;
 use layout::record::Reading;
 use xdr::Outcome;
 
-// What C gets of a reading of GenericInterfaceCounters.
+// What C gets of a reading of GenericInterfaceCounters, since no generic struct goes to C.
 #[repr(C)]
 #[derive(Clone, Copy)]
 pub struct GenericInterfaceCountersReading {
@@ -35,7 +36,7 @@ pub extern "C" fn latchplume_read_generic_interface_counters(
     GenericInterfaceCountersReading { outcome, fields }
 }
 
-// What C gets of a reading of EthernetInterfaceCounters.
+// What C gets of a reading of EthernetInterfaceCounters, since no generic struct goes to C.
 #[repr(C)]
 #[derive(Clone, Copy)]
 pub struct EthernetInterfaceCountersReading {
@@ -56,7 +57,7 @@ pub extern "C" fn latchplume_read_ethernet_interface_counters(
     EthernetInterfaceCountersReading { outcome, fields }
 }
 
-// What C gets of a reading of TokenRingCounters.
+// What C gets of a reading of TokenRingCounters, since no generic struct goes to C.
 #[repr(C)]
 #[derive(Clone, Copy)]
 pub struct TokenRingCountersReading {
@@ -75,7 +76,7 @@ pub extern "C" fn latchplume_read_token_ring_counters(
     TokenRingCountersReading { outcome, fields }
 }
 
-// What C gets of a reading of Vg100InterfaceCounters.
+// What C gets of a reading of Vg100InterfaceCounters, since no generic struct goes to C.
 #[repr(C)]
 #[derive(Clone, Copy)]
 pub struct Vg100InterfaceCountersReading {
@@ -94,7 +95,7 @@ pub extern "C" fn latchplume_read_vg100_interface_counters(
     Vg100InterfaceCountersReading { outcome, fields }
 }
 
-// What C gets of a reading of VlanCounters.
+// What C gets of a reading of VlanCounters, since no generic struct goes to C.
 #[repr(C)]
 #[derive(Clone, Copy)]
 pub struct VlanCountersReading {
@@ -110,7 +111,7 @@ pub extern "C" fn latchplume_read_vlan_counters(s: &[u8], d: &Words) -> VlanCoun
     VlanCountersReading { outcome, fields }
 }
 
-// What C gets of a reading of ProcessorCounters.
+// What C gets of a reading of ProcessorCounters, since no generic struct goes to C.
 #[repr(C)]
 #[derive(Clone, Copy)]
 pub struct ProcessorCountersReading {

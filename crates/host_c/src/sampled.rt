@@ -1,5 +1,6 @@
 // Made by tools/exports from crates/host.
 // What was sampled: the packet's first bytes, or the fields of its header.
+// Each layout has a function of its own, by whose name C asks for it.
 ghost use Rattle.std.specs.Prelude.{◌≡◌};
 ghost use Rattle.reading.specs.Layout.{memo};
 ghost use Rattle.xdr.specs.Shown.{answer_of};
@@ -11,7 +12,7 @@ use flow_layouts::sampled::{SampledEthernet, SampledHeader, SampledIpv4, Sampled
 use layout::record::Reading;
 use xdr::Outcome;
 
-// What C gets of a reading of SampledHeader.
+// What C gets of a reading of SampledHeader, since no generic struct goes to C.
 #[repr(C)]
 #[derive(Clone, Copy)]
 pub struct SampledHeaderReading {
@@ -27,7 +28,7 @@ pub extern "C" fn latchplume_read_sampled_header(s: &[u8], d: &Words) -> Sampled
     SampledHeaderReading { outcome, fields }
 }
 
-// What C gets of a reading of SampledEthernet.
+// What C gets of a reading of SampledEthernet, since no generic struct goes to C.
 #[repr(C)]
 #[derive(Clone, Copy)]
 pub struct SampledEthernetReading {
@@ -43,7 +44,7 @@ pub extern "C" fn latchplume_read_sampled_ethernet(s: &[u8], d: &Words) -> Sampl
     SampledEthernetReading { outcome, fields }
 }
 
-// What C gets of a reading of SampledIpv4.
+// What C gets of a reading of SampledIpv4, since no generic struct goes to C.
 #[repr(C)]
 #[derive(Clone, Copy)]
 pub struct SampledIpv4Reading {
@@ -59,7 +60,7 @@ pub extern "C" fn latchplume_read_sampled_ipv4(s: &[u8], d: &Words) -> SampledIp
     SampledIpv4Reading { outcome, fields }
 }
 
-// What C gets of a reading of SampledIpv6.
+// What C gets of a reading of SampledIpv6, since no generic struct goes to C.
 #[repr(C)]
 #[derive(Clone, Copy)]
 pub struct SampledIpv6Reading {

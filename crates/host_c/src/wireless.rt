@@ -1,5 +1,6 @@
 // Made by tools/exports from crates/host.
 // 802.11: what was sent or received by radio.
+// Each layout has a function of its own, by whose name C asks for it.
 ghost use Rattle.std.specs.Prelude.{◌≡◌};
 ghost use Rattle.reading.specs.Layout.{memo};
 ghost use Rattle.xdr.specs.Shown.{answer_of};
@@ -13,7 +14,7 @@ use flow_layouts::wireless::{
 use layout::record::Reading;
 use xdr::Outcome;
 
-// What C gets of a reading of Extended80211Payload.
+// What C gets of a reading of Extended80211Payload, since no generic struct goes to C.
 #[repr(C)]
 #[derive(Clone, Copy)]
 pub struct Extended80211PayloadReading {
@@ -32,7 +33,7 @@ pub extern "C" fn latchplume_read_extended_80211_payload(
     Extended80211PayloadReading { outcome, fields }
 }
 
-// What C gets of a reading of Extended80211Rx.
+// What C gets of a reading of Extended80211Rx, since no generic struct goes to C.
 #[repr(C)]
 #[derive(Clone, Copy)]
 pub struct Extended80211RxReading {
@@ -48,7 +49,7 @@ pub extern "C" fn latchplume_read_extended_80211_rx(s: &[u8], d: &Words) -> Exte
     Extended80211RxReading { outcome, fields }
 }
 
-// What C gets of a reading of Extended80211Tx.
+// What C gets of a reading of Extended80211Tx, since no generic struct goes to C.
 #[repr(C)]
 #[derive(Clone, Copy)]
 pub struct Extended80211TxReading {
@@ -64,7 +65,7 @@ pub extern "C" fn latchplume_read_extended_80211_tx(s: &[u8], d: &Words) -> Exte
     Extended80211TxReading { outcome, fields }
 }
 
-// What C gets of a reading of Extended80211Aggregation.
+// What C gets of a reading of Extended80211Aggregation, since no generic struct goes to C.
 #[repr(C)]
 #[derive(Clone, Copy)]
 pub struct Extended80211AggregationReading {
