@@ -1,7 +1,7 @@
 -- UTF-8 byte by byte: where each byte fits the three before it, all up to any byte that is no tail can be passed. Assumes nothing.
 use Prim.Native.Nat.{ℕ, zero, suc, ◌+◌, ◌-◌, ◌≤◌, ◌<◌}
 use mathlib.Core.Path.{◌≡◌, refl, sym, ◌∙◌, ap}
-use mathlib.Core.Bool.{Bool, true, false}
+use mathlib.Core.Bool.{Bool, true, false, ◌&&◌}
 use mathlib.Core.List.{List}
 use native.Mathlib.Omega.{arith}
 use native.Mathlib.Numerals.{add-one}
@@ -9,18 +9,23 @@ use borrow.Author.Tests.{leb-true, leb-false, le-leb, lt-leb}
 use lib.Dec.{leb}
 use lib.ListN.{length, drop, get_or}
 use Rattle.reading.specs.Utf8.{◌&◌, among, tail, utf8_1, utf8_2, utf8_3, utf8_4}
-use Rattle.reading.proofs.Utf8.{pick, width, among_from, among_below, among_above, among_bounds, rows_3, rows_4, above_3, both}
+use Rattle.reading.proofs.Utf8.{pick, width, among_from, among_below, among_above, among_bounds, rows_3, rows_4, above_3}
 use Rattle.reading.proofs.Utf8Longest.{ends, sequence_on}
 use Rattle.strings.specs.Fits.{begins, awaited, least, most, second, fits, fits_at, all_fit}
 use Rattle.utf8.proofs.Places.{width_at}
 
+-- no byte was looked at, and one more
 pub none_yet : (s : List ℕ) (at : ℕ) → true ≡ all_fit s at 0
 unfolding all_fit
 none_yet s at = refl
 
-pub one_more : (s : List ℕ) (at i : ℕ) {x y : Bool} → x ≡ all_fit s at i → y ≡ fits_at s (at + i) → (x & y) ≡ all_fit s at (i + 1)
+pub one_more : (s : List ℕ) (at i : ℕ) {x y : Bool} → x ≡ all_fit s at i → y ≡ fits_at s (at + i) → (x && y) ≡ all_fit s at (i + 1)
 unfolding all_fit
-one_more s at i e f = both e f ∙ rw (add-one i)
+one_more s at i {x} {y} e f = rw (add-one i, ← e, ← f) (go x)
+  where
+    go : (x : Bool) → (x && y) ≡ (x & y)
+    go true = refl
+    go false = refl
 
 no : {A : Type 0} → true ≡ false → A
 no e = let z : ◌≡◌ {A = ℕ} 0 1 = cc in absurd (omega arith)
@@ -322,3 +327,5 @@ module _ (s : List ℕ) (low n : ℕ) (all : all_fit s low n ≡ true) (three : 
 
     pub bytes_passed : (r : ℕ) → low ≤ r → r < low + n → tail (b r) ≡ false → ends s r ≡ ends s low
     bytes_passed r h l t = up_to (r - low) r (omega arith) h l t
+
+pub ruleset looked_at = (none_yet, one_more)

@@ -1,18 +1,30 @@
 -- Bytes tested at once, by the highest bit of each: none is set exactly where all are UTF8-1. Assumes nothing.
 use Prim.Native.Nat.{ℕ, zero, suc, ◌+◌, ◌*◌, ◌-◌, ◌≤◌, ◌<◌}
 use mathlib.Core.Path.{◌≡◌, refl, sym, ap, ◌∙◌}
-use mathlib.Core.Bool.{Bool, true, false, cond}
-use mathlib.Core.List.{List}
+use mathlib.Core.Bool.{Bool, true, false, cond, not, ◌&&◌}
+use mathlib.Core.List.{List, [], ◌∷◌}
 use native.Mathlib.Omega.{arith}
-use borrow.Author.Tests.{leb-true, leb-false, le-leb, lt-leb, eqb-true, eqb-false, ne_eqb}
+use borrow.Author.Tests.{ltb-false, leb-true, leb-false, le-leb, lt-leb, eqb-true, eqb-false, ne_eqb}
 use lib.Bits.{bit_and, and_block, and_comm, and_shifted, and_zero_r}
-use lib.Dec.{eqb, leb, leb-suc-suc, leb-suc-zero}
-use lib.ListN.{length, drop, get_or}
-use Rattle.reading.proofs.Utf8.{plain, among_from}
-use Rattle.strings.specs.Numbers.{number, Bytes}
+use lib.Dec.{ltb, eqb, leb, leb-suc-suc, leb-suc-zero}
+use lib.ListN.{length, drop, take, get_or, length-drop, length-take}
+use Rattle.std.proofs.Common.{Option, Some, None, w32, w64}
+use Rattle.std.specs.Int.{from_le_bytes}
+use Rattle.std.specs.List.{fold, position_or_len}
+use Rattle.reading.specs.Utf8.{among, utf8_1}
+use Rattle.reading.proofs.Utf8.{plain, among_from, among_above}
 use Rattle.strings.specs.Skips.{last_plain}
 use Rattle.strings.proofs.Bytes.{both_true}
-use Rattle.utf8.proofs.Places.{plain_drop, plain_here, plain_past, plain_room}
+use Rattle.utf8.proofs.Places.{run_none, plain_drop, plain_here, plain_past, plain_room}
+
+-- of the n bytes from i on, counted from a place, as one number, the last one highest; and that they are bytes
+unfoldable pub number : ℕ → List ℕ → ℕ → ℕ → ℕ
+number zero s at i = 0
+number (suc n) s at i = number n s at (i + 1) * 256 + get_or s (at + i) 0
+
+unfoldable pub Bytes : ℕ → List ℕ → ℕ → ℕ → Type 0
+Bytes zero s at i = 0 ≤ i
+Bytes (suc n) s at i = (get_or s (at + i) 0 < 256) × Bytes n s at (i + 1)
 
 -- the highest bits of n bytes
 unfoldable pub highs : ℕ → ℕ
@@ -61,20 +73,8 @@ module _ (s : List ℕ) (at : ℕ) where
       go again true t = rw (low_byte (get_or s (at + i) 0) (omega (arith, leb-true (get_or s (at + i) 0) 0x7f t)), plain_at i (omega arith), t, leb-suc-suc) (scaled rest ∙ again)
       go again false t = rw (high_byte (get_or s (at + i) 0) (omega (arith, leb-false (get_or s (at + i) 0) 0x7f t)) b, plain_at i (omega arith), t, leb-suc-zero) (ne_eqb (rest * 256 + 128) 0 (λ z. omega arith))
 
-  -- bytes that were read one by one: the last, one more before those behind it, and the first
-  pub last_read : (i : ℕ) {b : ℕ} → (b ≡ get_or s (at + i) 0) × (b < 256) → (b ≡ number 1 s at i) × Bytes 1 s at i
-  unfolding number Bytes
-  last_read i (e, l) = (omega arith, (omega arith, omega arith))
-
-  pub more_read : (n i : ℕ) {v b : ℕ} → (v ≡ number n s at (i + 1)) × Bytes n s at (i + 1) → (b ≡ get_or s (at + i) 0) × (b < 256) → (v * 256 + b ≡ number (suc n) s at i) × Bytes (suc n) s at i
-  unfolding number Bytes
-  more_read n i (e, bs) (f, l) = (omega arith, (omega arith, bs))
-
-  pub first_read : (n : ℕ) {v b : ℕ} → (v ≡ number n s at 1) × Bytes n s at 1 → (b ≡ get_or s at 0) × (b < 256) → (v * 256 + b ≡ number (suc n) s at 0) × Bytes (suc n) s at 0
-  first_read n r (f, l) = let z : at ≡ at + 0 = omega arith in more_read n 0 r (f ∙ ap (λ (j : ℕ). get_or s j 0) z, l)
-
   -- n bytes as one number, tested at once
-  pub all_plain : (n : ℕ) {m v : ℕ} → (v ≡ number n s at 0) × Bytes n s at 0 → m ≡ n → at + m ≤ length s → eqb (bit_and v (highs n)) 0 ≡ leb m (plain (drop at s))
+  all_plain : (n : ℕ) {m v : ℕ} → (v ≡ number n s at 0) × Bytes n s at 0 → m ≡ n → at + m ≤ length s → eqb (bit_and v (highs n)) 0 ≡ leb m (plain (drop at s))
   all_plain n (e, b) z h = let y : at + 0 ≡ at = omega arith in rw (e, z) (none_high n 0 b (omega arith) ∙ ap (λ (j : ℕ). leb n (plain (drop j s))) y)
 
 -- the last k bytes hold the rest, where at most k are left
@@ -114,5 +114,75 @@ module _ (s : List ℕ) (k : ℕ) (h : k ≤ length s) (l : length s ≤ k + k) 
       go true f = sym (le-leb (length s) (plain s) (omega (arith, reach, leb-true k (plain (drop (length s - k) s)) (sym f))))
       go false f = sym (lt-leb (length s) (plain s) (omega (arith, reach, leb-false k (plain (drop (length s - k) s)) (sym f))))
 
-  pub first_other : x ≡ false → false ≡ leb (length s) (plain s)
-  first_other t = sym (lt-leb (length s) (plain s) (omega (arith, leb-false k (plain (drop 0 s)) (sym e ∙ t))))
+-- a block as a slice, and as bytes at a place
+plain_take : (n : ℕ) (t : List ℕ) → n ≤ length t → leb n (plain (take n t)) ≡ leb n (plain t)
+unfolding plain
+plain_take zero t h = simp (le-leb 0 (plain t) (omega arith), le-leb 0 (plain (take 0 t)) (omega arith))
+plain_take (suc n) [] h = absurd (omega arith)
+plain_take (suc n) (a ∷ t) h = go (utf8_1 a) (plain_take n t (omega arith))
+  where
+    go : (x : Bool) → leb n (plain (take n t)) ≡ leb n (plain t) → leb (suc n) (cond x (suc (plain (take n t))) 0) ≡ leb (suc n) (cond x (suc (plain t)) 0)
+    go true e = simp leb-suc-suc e
+    go false e = refl
+
+pub block_plain : (s : List ℕ) (at n : ℕ) {k m : ℕ} {b : List ℕ} {r : Bool} → at + n ≤ length s → k ≡ n → r ≡ leb m (plain b) → b ≡ take k (drop at s) → length b ≡ m → r ≡ leb n (plain (drop at s))
+block_plain s at n {k} {m} h z e f l =
+    let y : m ≡ n = omega (arith, l, ap length f, length-take k (drop at s), length-drop at s) in
+    e ∙ rw (y, f, z) (plain_take n (drop at s) (omega (arith, length-drop at s)))
+
+-- bytes one by one
+pub fold_plain : (x : Bool) (t : List ℕ) → fold (λ all byte. all && leb byte 0x7f) x t ≡ (x && leb (length t) (plain t))
+unfolding plain among
+fold_plain x [] = rw (le-leb 0 0 (omega arith)) (go x)
+  where
+    go : (x : Bool) → x ≡ (x && true)
+    go true = refl
+    go false = refl
+fold_plain x (a ∷ t) = fold_plain (x && leb a 0x7f) t ∙ go x (leb a 0x7f) refl
+  where
+    go : (x y : Bool) → leb a 0x7f ≡ y → ((x && y) && leb (length t) (plain t)) ≡ (x && leb (suc (length t)) (cond (utf8_1 a) (suc (plain t)) 0))
+    go true true e = rw (le-leb 0 a (omega arith), e) (sym (leb-suc-suc _ _))
+    go true false e = rw (le-leb 0 a (omega arith), e) (sym (leb-suc-zero _))
+    go false y e = refl
+
+first_high : (t : List ℕ) → position_or_len (λ byte. not (leb byte 0x7f)) t ≡ plain t
+unfolding plain among
+first_high [] = refl
+first_high (a ∷ t) = go (leb a 0x7f) refl (first_high t)
+  where
+    go : (y : Bool) → leb a 0x7f ≡ y → position_or_len (λ byte. not (leb byte 0x7f)) t ≡ plain t
+        → cond (not (not y)) (1 + position_or_len (λ byte. not (leb byte 0x7f)) t) 0 ≡ cond (utf8_1 a) (suc (plain t)) 0
+    go true e f = rw (le-leb 0 a (omega arith), e) (omega arith)
+    go false e f = rw (le-leb 0 a (omega arith), e)
+
+module _ (t : List ℕ) {o : Option ℕ} (e : o ≡ cond (ltb (position_or_len (λ byte. not (leb byte 0x7f)) t) (length t)) (Some (position_or_len (λ byte. not (leb byte 0x7f)) t)) None) where
+  pub first_there : {k : ℕ} → o ≡ Some k → k ≡ plain t
+  first_there {k} f = go (ltb (plain t) (length t)) (rw (first_high t) at (sym f ∙ e))
+    where
+      go : (y : Bool) → Some k ≡ cond y (Some (plain t)) None → k ≡ plain t
+      go true f = cc
+      go false f = cc
+
+  pub first_nowhere : o ≡ None → length t ≡ plain t
+  first_nowhere f = go (ltb (plain t) (length t)) refl (rw (first_high t) at (sym f ∙ e))
+    where
+      go : (y : Bool) → ltb (plain t) (length t) ≡ y → None ≡ cond y (Some (plain t)) None → length t ≡ plain t
+      go true e f = cc
+      go false e f = omega (arith, ltb-false (plain t) (length t) e, plain_room t 0)
+
+-- eight bytes and four, read as one number
+pub eight_high : (bs : List ℕ) {v : ℕ} → v ≡ from_le_bytes w64 bs → length bs ≡ 8 → ((i : ℕ) → get_or bs i 0 < 256) → eqb (bit_and v 0x8080808080808080) 0 ≡ leb 8 (plain bs)
+unfolding number Bytes highs
+eight_high bs e l h = all_plain bs 0 8 (omega arith, (h 0, (h 1, (h 2, (h 3, (h 4, (h 5, (h 6, (h 7, omega arith))))))))) refl (omega arith)
+
+pub four_high : (bs : List ℕ) {v : ℕ} → v ≡ from_le_bytes w32 bs → length bs ≡ 4 → ((i : ℕ) → get_or bs i 0 < 256) → eqb (bit_and v 0x80808080) 0 ≡ leb 4 (plain bs)
+unfolding number Bytes highs
+four_high bs e l h = all_plain bs 0 4 (omega arith, (h 0, (h 1, (h 2, (h 3, omega arith))))) refl (omega arith)
+
+-- where a byte stands that is no UTF8-1, there is no run
+pub run_over : (s : List ℕ) (at : ℕ) {x : Bool} → x ≡ ltb (get_or s at 0) 128 → x ≡ false → at < length s → at ≡ at + plain (drop at s)
+run_over s at e t l =
+    let h = ltb-false (get_or s at 0) 128 (sym e ∙ t) in
+    run_none s at refl (among_above 0x00 0x7f (get_or s at 0) (omega arith)) l
+
+pub ruleset ends = (too_few, too_early, last_look)

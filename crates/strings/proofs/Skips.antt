@@ -14,21 +14,11 @@ use Rattle.reading.proofs.Utf8.{plain, width}
 use Rattle.reading.proofs.Utf8Longest.{ends}
 use Rattle.strings.specs.Fits.{all_fit}
 use Rattle.strings.proofs.Bytes.{bytes_passed}
-use Rattle.utf8.proofs.Places.{plain_room, run_room, run_on, sequence_room}
+use Rattle.utf8.proofs.Places.{plain_room, run_room, run_on, sequence_room, all_passed, sequence_passed, none_there}
 use Rattle.strings.specs.Skips.{LastBegins, Skips}
-
-module _ {s : List ℕ} {low high r : ℕ} (h : low ≤ r) (l : r < high) where
-  pub begins_here : {x : Bool} → x ≡ tail (get_or s r 0) → x ≡ false → LastBegins s low high r
-  begins_here e t = record { from = h; below = l; begin = λ _. sym e ∙ t }
-
-  pub begins_first : r ≤ low → LastBegins s low high r
-  begins_first k = record { from = h; below = l; begin = λ m. absurd (omega arith) }
 
 pub same_place : (s : List ℕ) (at : ℕ) → at ≤ length s → Skips s at at
 same_place s at h = record { from = omega arith; room = h; same = refl }
-
-pub no_tail : (s : List ℕ) (at : ℕ) {x : Bool} → x ≡ tail (get_or s at 0) → x ≡ false → tail (get_or s at 0) ≡ false
-no_tail s at e t = sym e ∙ t
 
 -- from one window to the next
 module _ (s : List ℕ) (at i n j : ℕ) (g : Skips s at i) (t : tail (get_or s i 0) ≡ false) {x : Bool} (e : x ≡ all_fit s i n) (y : x ≡ true) (k : 3 ≤ i) (l : n ≤ length s - i) (b : LastBegins s i (i + n) j) (m : i < j) where
@@ -66,3 +56,8 @@ module _ (s : List ℕ) (at r : ℕ) (g : Skips s at r) where
 
     pub walk_less : at < length s → (n ≡ 0 → ⊥) → length s - (r + n) < length s - at
     walk_less h z = omega (arith, char_room, g.from)
+
+-- what the loops over windows and over characters rest on
+pub ruleset windows = (same_place, window_turn)
+
+pub ruleset walking = (all_passed, sequence_passed, none_there, skip_room, skip_same, char_room, char_fits, walk_less)

@@ -27,3 +27,5 @@ module _ (s : List ℕ) (at n : ℕ) {x : ℕ} (e : x ≡ at + plain (drop at s)
 
   pub blocks_then : {r : ℕ} → r ≡ x + plain (drop x s) → r ≡ at + plain (drop at s)
   blocks_then f = plain_on s at (plain (drop at s) / n * n) f e (div-mul-le_self (plain (drop at s)) n)
+
+pub ruleset blocks = (blocks_inside, blocks_then)
