@@ -2,14 +2,16 @@
 from readers import MADE, WIDEST, antt, imports
 
 CALL = '''
-pub fn latchplume_read_%(name)s(%(parameters)s) -> Reading<%(type)s>
+%(sees)spub fn latchplume_read_%(name)s(%(parameters)s) -> Reading<%(type)s>
     ensures { answer_of result.outcome (%(shown)s result.fields) ≡ read_at memo %(kind)d %(format)d s.now d.now }
 {
     read(s, d, %(kind)d, %(format)d, Mode::Memo)
 }
 '''
+# so that a proof sees which layout the datagram has
+SEES = '#[tactic(auto, unfolding(reading::specs::Answer::layout_of))]\n'
 BACK = '''
-pub %(name)s_lossless : Lossless (λ (r : Reading %(type)s). answer_of r.outcome (%(name)s r.fields))
+pub %(name)s_lossless : Lossless (λ (r : Reading %(type)s). answer_of r.outcome (%(shown)s r.fields))
 %(name)s_lossless = got_back (λ (x : Fields). record { outcome = outcome_of x; fields = record { %(back)s } }) (λ r. refl)
 '''
 SETTLED = '''  pub read_%(name)s_settled : Settles (call.%(file)s.latchplume_read_%(name)s.Reads.Learnt κs (s, (w, tt))) \
@@ -19,10 +21,11 @@ SETTLED = '''  pub read_%(name)s_settled : Settles (call.%(file)s.latchplume_rea
 
 
 def said(layout):
-    """What the texts say of a layout. The datagram's reader is written by hand, and has names of its own."""
+    """What the texts say of a layout. The datagram's reader is by hand: it has names of its own, and a layout that stands in no table."""
     line = 'pub fn latchplume_read_%s(s: &[u8], d: &Words) -> Reading<%s>' % (layout.name, layout.type)
     parameters = 's: &[u8], d: &Words' if len(line) <= WIDEST else '\n    s: &[u8],\n    d: &Words,\n'
-    return dict(vars(layout), parameters=parameters, shown='header_fields' if layout.by_hand else layout.name)
+    module, shown, sees = ('header', 'header_fields', SEES) if layout.by_hand else (layout.file, layout.name, '')
+    return dict(vars(layout), parameters=parameters, module=module, shown=shown, sees=sees)
 
 
 def uses(layouts):
@@ -33,7 +36,7 @@ def uses(layouts):
 
 def source(file, about, layouts):
     names = ['fields::ask::read', 'fields::descriptor::Words', 'layout::field::Mode', 'layout::record::Reading']
-    names += ['%s::%s::%s' % (one.crate, 'header' if one.by_hand else file, one.type) for one in layouts]
+    names += ['%(crate)s::%(module)s::%(type)s' % said(one) for one in layouts]
     lines = ['// ' + MADE, '// ' + about, '// Each layout has a function of its own, by whose name C asks for it.',
              'ghost use Rattle.std.specs.Prelude.{◌≡◌};', 'ghost use Rattle.reading.specs.Layout.{memo};',
              'ghost use Rattle.xdr.specs.Shown.{answer_of};', *('ghost %s;' % line for line in uses(layouts)),
@@ -53,11 +56,11 @@ def back(layout):
 
 
 def lossless(layouts):
-    lines = ['use Rattle.%(crate)s.specs.declared.%(file)s.%(type)s.{%(type)s}' % vars(one) for one in layouts] + [*uses(layouts)]
-    return '\n'.join(lines) + '\n' + ''.join(BACK % dict(vars(one), back='; '.join(back(one))) for one in layouts) + '\n'
+    lines = ['use Rattle.%(crate)s.specs.declared.%(module)s.%(type)s.{%(type)s}' % said(one) for one in layouts] + [*uses(layouts)]
+    return '\n'.join(lines) + '\n' + ''.join(BACK % dict(said(one), back='; '.join(back(one))) for one in layouts) + '\n'
 
 
 def readings(layouts):
-    names = ', '.join(one.name + '_lossless' for one in layouts if not one.by_hand)
+    names = ', '.join(one.name + '_lossless' for one in layouts)
     lines = [*uses(layouts), 'use Rattle.host.proofs.Lossless.{%s}' % names, '', 'module _ (κs s w : _) where']
     return '\n'.join(lines) + '\n' + '\n'.join(SETTLED % said(one) for one in layouts) + '\n'

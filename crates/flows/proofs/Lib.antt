@@ -1,4 +1,3 @@
 pub mod Ahead
-pub mod Cycles
 pub mod Placing
 pub mod Scanning

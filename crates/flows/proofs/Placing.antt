@@ -79,7 +79,7 @@ module _ (left : ℕ) (s l : List ℕ) (at base parent word rest : ℕ) (g : Rea
       own_range = record { kind = 4; format = 0; span = between (at + 4) a; depth = depth_limit - left; first = at }
 
       module _ {l'' : List ℕ} (q : l'' ≡ write l' word (row_of parent own_range)) where
-        pdu_placed : a_put a b l'' ≡ placed (a_pen base parent word) (follow (pdu (depth_limit - left) (flow base_mode depth_limit left)) s (from at)) l
+        pub pdu_placed : a_put a b l'' ≡ placed (a_pen base parent word) (follow (pdu (depth_limit - left) (flow base_mode depth_limit left)) s (from at)) l
         unfolding placed
         pdu_placed =
             let i : a ≡ end_of (times (be4 s at) (follow (flow base_mode depth_limit left)) s (from (at + 4))) = rw v at (at_is (a_pen base me (word + descriptor_words)) _ l e) in

@@ -11,7 +11,7 @@ ghost use Rattle.flows.specs.Passing.{FlatOf};
 use crate::{MAX_DEPTH, TOO_DEEP};
 use load;
 use numbers::DataFormat;
-use store::{DESCRIPTOR_WORDS, Descriptor, Pen, Written, index_at, put, put_frame};
+use store::{DESCRIPTOR_WORDS, Descriptor, Kind, Pen, Written, index_at, put, put_frame};
 
 // Where flat records end: the next byte, the word where the next descriptor begins, and the records that are left.
 #[derive(Clone, Copy)]
@@ -35,40 +35,26 @@ pub fn put_flat_records(
     ensures flat_of { FlatOf left s.now store.old at n pen result store.new }
     ensures at_value { (result.rest ≡ 0 → ⊥) → be4 s.now result.at ≡ 1016 }
 {
-    let base = pen.base;
-    let parent = pen.parent;
     let depth = (TOO_DEEP - left) as u32;
     let mut cur = at;
     let mut word = pen.word;
-    let mut rest = n;
-    while 0 < rest {
+    for i in 0..n {
         if load::be32(s, cur) == 1016 {
             return Flat {
                 at: cur,
-                word: word,
-                rest: rest,
+                word,
+                rest: n - i,
             };
         }
-        let w = put_frame(
-            s,
-            cur,
-            2,
-            depth,
-            &mut *store,
-            Pen {
-                base: base,
-                parent: parent,
-                word: word,
-            },
-        );
+        let pen = Pen { word, ..pen };
+        let w = put_frame(s, cur, Kind::FlowRecord as u32, depth, &mut *store, pen);
         cur = w.at;
         word = w.word;
-        rest = rest - 1;
     }
     Flat {
         at: cur,
-        word: word,
-        rest: rest,
+        word,
+        rest: 0,
     }
 }
 
@@ -86,31 +72,14 @@ fn put_flow_records(
     requires ready { Ready s.now store.old pen (times n (follow (flow base_mode depth_limit left)) s.now (from at)) }
     ensures { written result store.new ≡ placed pen (times n (follow (flow base_mode depth_limit left)) s.now (from at)) store.old }
 {
-    let base = pen.base;
-    let parent = pen.parent;
     let mut cur = at;
     let mut word = pen.word;
-    let mut rest = n;
-    while 0 < rest {
-        let w = put_flow_record(
-            s,
-            cur,
-            left,
-            &mut *store,
-            Pen {
-                base: base,
-                parent: parent,
-                word: word,
-            },
-        );
+    for i in 0..n {
+        let w = put_flow_record(s, cur, left, &mut *store, Pen { word, ..pen });
         cur = w.at;
         word = w.word;
-        rest = rest - 1;
     }
-    Written {
-        at: cur,
-        word: word,
-    }
+    Written { at: cur, word }
 }
 
 // One flow record: its own descriptor, and, where it is an aggregation, its PDUs behind that.
@@ -124,7 +93,7 @@ fn put_flow_record(s: &[u8], at: usize, left: usize, store: &mut [u32], pen: Pen
     let format = load::be32(s, at);
     let base = pen.base;
     let word = pen.word;
-    let own = put_frame(s, at, 2, depth, &mut *store, pen);
+    let own = put_frame(s, at, Kind::FlowRecord as u32, depth, &mut *store, pen);
     if format != 1016 {
         return own;
     }
@@ -152,41 +121,33 @@ pub fn put_pdus(
     ensures { filled result store.new ≡ fills (held_by base word) (follow (opened (flows base_mode (pdu (depth_limit - left) (flow base_mode depth_limit left))) 1016) s.now (from at)) store.old }
 {
     let parent = index_at(base, word);
+    let n = load::be32(s, at);
     let mut cur = at + 4;
     let mut to = word + DESCRIPTOR_WORDS;
-    let mut rest = load::be32(s, at);
-    while 0 < rest {
-        let n = load::be32(s, cur);
+    for i in 0..n {
+        let records = load::be32(s, cur);
         let start = cur + 4;
-        let w = put_flow_records(
-            s,
-            start,
-            n,
-            left,
-            &mut *store,
-            Pen {
-                base: base,
-                parent: index_at(base, to),
-                word: to + DESCRIPTOR_WORDS,
-            },
-        );
-        let end = w.at;
+        let pen = Pen {
+            base,
+            parent: index_at(base, to),
+            word: to + DESCRIPTOR_WORDS,
+        };
+        let w = put_flow_records(s, start, records, left, &mut *store, pen);
         put(
             &mut *store,
             to,
             Descriptor {
-                kind: 4,
+                kind: Kind::Pdu as u32,
                 format: DataFormat(0),
                 start: start as u32,
-                length: (end - start) as u32,
-                parent: parent,
+                length: (w.at - start) as u32,
+                parent,
                 depth: (MAX_DEPTH - left) as u32,
                 first: cur as u32,
             },
         );
-        cur = end;
+        cur = w.at;
         to = w.word;
-        rest = rest - 1;
     }
     to
 }

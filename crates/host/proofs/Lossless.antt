@@ -6,6 +6,7 @@ use Rattle.xdr.proofs.Settles.{Lossless, got_back}
 use Rattle.xdr.proofs.Lossless.{outcome_of, word_at, bytes_at, address_at, range_at}
 use Rattle.layout.specs.declared.record.Reading.{Reading}
 -- made by layouts/make from layouts/table: from here
+use Rattle.datagram.specs.declared.header.Header.{Header}
 use Rattle.samples.specs.declared.heads.FlowSample.{FlowSample}
 use Rattle.samples.specs.declared.heads.CountersSample.{CountersSample}
 use Rattle.samples.specs.declared.heads.FlowSampleExpanded.{FlowSampleExpanded}
@@ -38,8 +39,12 @@ use Rattle.counters.specs.declared.polled.Vg100InterfaceCounters.{Vg100Interface
 use Rattle.counters.specs.declared.polled.VlanCounters.{VlanCounters}
 use Rattle.counters.specs.declared.polled.ProcessorCounters.{ProcessorCounters}
 use Rattle.counters.specs.Shown.{generic_interface_counters, ethernet_interface_counters, token_ring_counters, vg100_interface_counters, vlan_counters, processor_counters}
+use Rattle.datagram.specs.Shown.{header_fields}
 use Rattle.flow_layouts.specs.Shown.{sampled_header, sampled_ethernet, sampled_ipv4, sampled_ipv6, extended_switch, extended_router, extended_gateway, extended_user, extended_url, extended_mpls, extended_nat, extended_mpls_tunnel, extended_mpls_vc, extended_mpls_fec, extended_mpls_lvp_fec, extended_vlan_tunnel, extended_80211_payload, extended_80211_rx, extended_80211_tx, extended_80211_aggregation}
 use Rattle.samples.specs.Shown.{flow_sample, counters_sample, flow_sample_expanded, counters_sample_expanded, discarded_packet}
+
+pub header_lossless : Lossless (λ (r : Reading Header). answer_of r.outcome (header_fields r.fields))
+header_lossless = got_back (λ (x : Fields). record { outcome = outcome_of x; fields = record { version = word_at x 0; agent_address = address_at x 1; sub_agent_id = word_at x 2; sequence_number = word_at x 3; uptime = word_at x 4; num_samples = word_at x 5 } }) (λ r. refl)
 
 pub flow_sample_lossless : Lossless (λ (r : Reading FlowSample). answer_of r.outcome (flow_sample r.fields))
 flow_sample_lossless = got_back (λ (x : Fields). record { outcome = outcome_of x; fields = record { sequence_number = word_at x 0; source_id = record { 0 = word_at x 1 }; sampling_rate = word_at x 2; sample_pool = word_at x 3; drops = word_at x 4; input = record { 0 = word_at x 5 }; output = record { 0 = word_at x 6 }; num_records = word_at x 7 } }) (λ r. refl)

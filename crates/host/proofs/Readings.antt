@@ -2,7 +2,6 @@
 use Rattle.reading.specs.Layout.{memo}
 use Rattle.xdr.specs.Shown.{answer_of}
 use Rattle.xdr.proofs.Settles.{Settles, settled}
-use Rattle.datagram.proofs.Lossless.{header_lossless}
 use Rattle.fields.specs.Shown.{read_at}
 use Rattle.host.proofs as call
 -- made by layouts/make from layouts/table: from here
@@ -10,7 +9,7 @@ use Rattle.counters.specs.Shown.{generic_interface_counters, ethernet_interface_
 use Rattle.datagram.specs.Shown.{header_fields}
 use Rattle.flow_layouts.specs.Shown.{sampled_header, sampled_ethernet, sampled_ipv4, sampled_ipv6, extended_switch, extended_router, extended_gateway, extended_user, extended_url, extended_mpls, extended_nat, extended_mpls_tunnel, extended_mpls_vc, extended_mpls_fec, extended_mpls_lvp_fec, extended_vlan_tunnel, extended_80211_payload, extended_80211_rx, extended_80211_tx, extended_80211_aggregation}
 use Rattle.samples.specs.Shown.{flow_sample, counters_sample, flow_sample_expanded, counters_sample_expanded, discarded_packet}
-use Rattle.host.proofs.Lossless.{flow_sample_lossless, counters_sample_lossless, flow_sample_expanded_lossless, counters_sample_expanded_lossless, discarded_packet_lossless, sampled_header_lossless, sampled_ethernet_lossless, sampled_ipv4_lossless, sampled_ipv6_lossless, extended_switch_lossless, extended_router_lossless, extended_gateway_lossless, extended_user_lossless, extended_url_lossless, extended_mpls_lossless, extended_nat_lossless, extended_mpls_tunnel_lossless, extended_mpls_vc_lossless, extended_mpls_fec_lossless, extended_mpls_lvp_fec_lossless, extended_vlan_tunnel_lossless, extended_80211_payload_lossless, extended_80211_rx_lossless, extended_80211_tx_lossless, extended_80211_aggregation_lossless, generic_interface_counters_lossless, ethernet_interface_counters_lossless, token_ring_counters_lossless, vg100_interface_counters_lossless, vlan_counters_lossless, processor_counters_lossless}
+use Rattle.host.proofs.Lossless.{header_lossless, flow_sample_lossless, counters_sample_lossless, flow_sample_expanded_lossless, counters_sample_expanded_lossless, discarded_packet_lossless, sampled_header_lossless, sampled_ethernet_lossless, sampled_ipv4_lossless, sampled_ipv6_lossless, extended_switch_lossless, extended_router_lossless, extended_gateway_lossless, extended_user_lossless, extended_url_lossless, extended_mpls_lossless, extended_nat_lossless, extended_mpls_tunnel_lossless, extended_mpls_vc_lossless, extended_mpls_fec_lossless, extended_mpls_lvp_fec_lossless, extended_vlan_tunnel_lossless, extended_80211_payload_lossless, extended_80211_rx_lossless, extended_80211_tx_lossless, extended_80211_aggregation_lossless, generic_interface_counters_lossless, ethernet_interface_counters_lossless, token_ring_counters_lossless, vg100_interface_counters_lossless, vlan_counters_lossless, processor_counters_lossless}
 
 module _ (κs s w : _) where
   pub read_header_settled : Settles (call.heads.latchplume_read_header.Reads.Learnt κs (s, (w, tt))) (λ r. answer_of r.outcome (header_fields r.fields)) (read_at memo 0 0 s.now w.now)

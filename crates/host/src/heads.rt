@@ -17,6 +17,7 @@ use samples::heads::{
     CountersSample, CountersSampleExpanded, DiscardedPacket, FlowSample, FlowSampleExpanded,
 };
 
+#[tactic(auto, unfolding(reading::specs::Answer::layout_of))]
 pub fn latchplume_read_header(s: &[u8], d: &Words) -> Reading<Header>
     ensures { answer_of result.outcome (header_fields result.fields) ≡ read_at memo 0 0 s.now d.now }
 {
