@@ -226,14 +226,30 @@ def listed(items, indent, behind=''):
 
 def row_arm(layout):
     """How the framing passes a flow record: an arm of its table."""
-    steps = [Step(run) for run in layout.runs()]
-    memo, base = ([step.passed or one for step in steps] for one in ('Mac', 'Six'))
-    fields = [['Field::' + name for name in names] for names in (memo, base)]
+    memo, base = ('row!(c, s, %s),' % ', '.join(passed(layout, six)) for six in ('Mac', 'Six'))
     if not layout.modes:
-        lines = listed(fields[0], 8, ',')
-        return ['        %d => %s' % (layout.format, lines[0].lstrip()), *lines[1:]]
-    arms = [[' ' * 12 + 'Mode::%s => %s' % (mode, lines[0].lstrip()), *lines[1:]] for mode, lines in zip(('Memo', 'Base'), (listed(one, 12, ',') for one in fields))]
-    return ['        %d => match mode {' % layout.format, *(line for arm in arms for line in arm), '        },']
+        return ['        %d => %s' % (layout.format, memo)]
+    return ['        %d => match mode {' % layout.format, '            Mode::Memo => ' + memo, '            Mode::Base => ' + base, '        },']
+
+
+def passed(layout, six):
+    """The fields that the framing passes, by their names in `layout::pass`."""
+    return [Step(run).passed or six for run in layout.runs()]
+
+
+def passed_answers(layouts):
+    """Where a field of several items was passed, that the cursor behind it is inside: what each field behind it requires."""
+    lines = ['-- ' + MADE, 'use Rattle.layout.proofs.Passing.{after_row}', 'use Rattle.flow_layouts.proofs.data.fields.Goals as goal']
+    for layout in layouts:
+        inside, behind = 'c.requires.inside', False
+        for at, step in enumerate(map(Step, layout.runs()), 1):
+            nth = '-%d' % at if at > 1 else ''
+            goal = 'pass-requires-in-%d%s' % (layout.format, nth)
+            if behind:
+                lines += ['', 'pub %s : goal.%s' % (goal, goal), '%s c = %s' % (goal, inside)]
+            inside = 'after_row _ _ _ %s c.in_ok-c-in-%d%s.ensures' % ('(%s)' % inside if at > 1 else inside, layout.format, nth)
+            behind = behind or step.several
+    return '\n'.join(lines) + '\n'
 
 
 def width_arm(layout):

@@ -45,6 +45,7 @@ impl Record for Header {
         Header::default()
     }
 
+    #[inline(always)]
     #[tactic(auto, unfolding(reading::specs::Cursor::fixed, reading::specs::Cursor::read_item, reading::proofs::Fields::field_out, reading::proofs::Fields::fields_out))]
     fn read(c: Cursor, s: &[u8], _mode: Mode) -> Read<Header> {
         let (version, c) = read_version(c, s)?;

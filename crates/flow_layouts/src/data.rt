@@ -5,69 +5,56 @@ ghost use Rattle.reading.specs.Cursor.{follow};
 ghost use Rattle.reading.specs.Layout.{opened, flows};
 ghost use Rattle.reading.specs.Answer.{layout_of};
 ghost use Rattle.xdr.specs.Shown.{Inside, place, passed_out};
-ghost use Rattle.layout.specs.Passing.{row_of};
+ghost use Rattle.layout.specs.Passing.{passing};
 ghost use Rattle.layout.specs.Shown.{mode_of};
 
 use layout::field::Mode;
-use layout::pass;
-use layout::pass::Field;
+use layout::pass::Field::{
+    Address, List, Long, Mac, Opaque, Protocol, Segments, Six, Sixteen, Text, Words,
+};
 use xdr::{Cursor, Passed};
 
-// The fields of a format; none where it stays raw.
-#[tactic(auto, unfolding(reading::specs::Answer::layout_of, reading::specs::Layout::flows))]
-fn row(format: u32, mode: Mode) -> &'static [Field]
-    requires { format ≡ 1016 → ⊥ }
-    ensures { row_of result.now ≡ layout_of (mode_of mode) 2 format }
+// Past the fields of a row, one behind another.
+macro_rules! row {
+    ($c:ident, $s:ident, $($field:expr),+) => {{
+        $(let $c = $field.pass($c, $s)?;)+
+        Ok($c)
+    }};
+}
+
+// Past the fields of a format; none where it stays raw.
+#[tactic(auto, unfolding(reading::specs::Answer::layout_of, reading::specs::Layout::flows, reading::specs::Cursor::fixed, reading::specs::Cursor::read_item, reading::proofs::Fields::field_out, reading::proofs::Fields::fields_out))]
+fn fields(c: Cursor, s: &[u8], format: u32, mode: Mode) -> Passed
+    requires inside { Inside s.now c }
+    requires no_aggregation { format ≡ 1016 → ⊥ }
+    ensures { passed_out result nothing ≡ passing (layout_of (mode_of mode) 2 format) s.now (place c) }
 {
     match format {
         // made by layouts/make from layouts/table: from here
-        1 => &[Field::Protocol, Field::Words(2), Field::Opaque],
+        1 => row!(c, s, Protocol, Words(2), Opaque),
         2 => match mode {
-            Mode::Memo => &[Field::Words(1), Field::Mac, Field::Mac, Field::Words(1)],
-            Mode::Base => &[Field::Words(1), Field::Six, Field::Six, Field::Words(1)],
+            Mode::Memo => row!(c, s, Words(1), Mac, Mac, Words(1)),
+            Mode::Base => row!(c, s, Words(1), Six, Six, Words(1)),
         },
-        3 => &[Field::Words(8)],
-        4 => &[
-            Field::Words(2),
-            Field::Sixteen,
-            Field::Sixteen,
-            Field::Words(4),
-        ],
-        1001 => &[Field::Words(4)],
-        1002 => &[Field::Address, Field::Words(2)],
-        1003 => &[
-            Field::Address,
-            Field::Words(3),
-            Field::Segments,
-            Field::List,
-            Field::Words(1),
-        ],
-        1004 => &[Field::Words(1), Field::Text, Field::Words(1), Field::Text],
-        1005 => &[Field::Words(1), Field::Text, Field::Text],
-        1006 => &[Field::Address, Field::List, Field::List],
-        1007 => &[Field::Address, Field::Address],
-        1008 => &[Field::Text, Field::Words(2)],
-        1009 => &[Field::Text, Field::Words(3)],
-        1010 => &[Field::Address, Field::Words(1)],
-        1011 => &[Field::Words(1)],
-        1012 => &[Field::List],
-        1013 => &[Field::Words(1), Field::Opaque],
-        1014 => &[
-            Field::Text,
-            Field::Mac,
-            Field::Words(2),
-            Field::Long,
-            Field::Words(3),
-        ],
-        1015 => &[
-            Field::Text,
-            Field::Mac,
-            Field::Words(5),
-            Field::Long,
-            Field::Words(1),
-        ],
+        3 => row!(c, s, Words(8)),
+        4 => row!(c, s, Words(2), Sixteen, Sixteen, Words(4)),
+        1001 => row!(c, s, Words(4)),
+        1002 => row!(c, s, Address, Words(2)),
+        1003 => row!(c, s, Address, Words(3), Segments, List, Words(1)),
+        1004 => row!(c, s, Words(1), Text, Words(1), Text),
+        1005 => row!(c, s, Words(1), Text, Text),
+        1006 => row!(c, s, Address, List, List),
+        1007 => row!(c, s, Address, Address),
+        1008 => row!(c, s, Text, Words(2)),
+        1009 => row!(c, s, Text, Words(3)),
+        1010 => row!(c, s, Address, Words(1)),
+        1011 => row!(c, s, Words(1)),
+        1012 => row!(c, s, List),
+        1013 => row!(c, s, Words(1), Opaque),
+        1014 => row!(c, s, Text, Mac, Words(2), Long, Words(3)),
+        1015 => row!(c, s, Text, Mac, Words(5), Long, Words(1)),
         // made by layouts/make: to here
-        _ => &[],
+        _ => Ok(c),
     }
 }
 
@@ -76,5 +63,5 @@ pub fn pass(c: Cursor, s: &[u8], format: u32, mode: Mode) -> Passed
     requires no_aggregation { format ≡ 1016 → ⊥ }
     ensures { passed_out result nothing ≡ follow (opened (flows (mode_of mode) (give nothing)) format) s.now (place c) }
 {
-    pass::pass(c, s, row(format, mode))
+    fields(c, s, format, mode)
 }

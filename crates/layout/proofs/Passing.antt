@@ -1,6 +1,6 @@
 -- A row that is passed, field by field. Assumes nothing.
 use Rattle.std.proofs.Common.{ℕ, ◌≡◌, refl, sym, ap, ◌∙◌, List, ◌++◌, Ok, Err}
-use Rattle.reading.specs.Script.{Value, Found, nothing, give}
+use Rattle.reading.specs.Script.{Value, nothing, give}
 use Rattle.reading.specs.Cursor.{Place, Out, got, stop, then, times, follow}
 use Rattle.reading.specs.Layout.{Field, any_word, fields, words}
 use Rattle.reading.proofs.Items.{never}

@@ -1,6 +1,5 @@
 -- The first pass over frames: where it has come to, and scripts one after another. Assumes nothing.
-use Rattle.std.proofs.Common.{ℕ, zero, suc, ◌+◌, ◌-◌, ◌≡◌, ◌≤◌, ◌<◌, refl, sym, ap, ◌∙◌, List, length, take, arith, length-take-le}
-use native.Mathlib.Numerals.{sub-one}
+use Rattle.std.proofs.Common.{ℕ, suc, ◌+◌, ◌-◌, ◌≡◌, ◌≤◌, ◌<◌, refl, sym, ap, ◌∙◌, List, length, take, arith, length-take-le}
 use Rattle.reading.specs.Sizes.{longest_input}
 use Rattle.reading.specs.Script.{Span, Value, number, Found, nothing, word, Script, give}
 use Rattle.reading.specs.Cursor.{Place, Out, got, stop, read_item, held_to, times, follow}

@@ -1,5 +1,5 @@
 -- Fields that are passed, with nothing kept of them. Assumes nothing.
-use Rattle.std.specs.Prelude.{ℕ, List, [], ◌∷◌, ◌++◌, Ok, Err}
+use Rattle.std.specs.Prelude.{List, [], ◌∷◌, Ok, Err}
 use Rattle.reading.specs.Script.{Found, six, sixteen, long, opaque, nothing}
 use Rattle.reading.specs.Cursor.{Reader, got, then}
 use Rattle.reading.specs.Layout as reading
@@ -22,10 +22,6 @@ fields_of a.Opaque = plain opaque ∷ []
 fields_of a.Text = str ∷ []
 fields_of a.List = list ∷ []
 fields_of a.Segments = segments ∷ []
-
-abbrev pub row_of : List Field → List reading.Field
-row_of [] = []
-row_of (f ∷ rest) = fields_of f ++ row_of rest
 
 -- a layout that is read, with nothing kept of it
 abbrev pub passing : List reading.Field → Reader Found

@@ -1,9 +1,9 @@
-// A row of a layout that is passed, field by field, with nothing kept of it: what the framing needs of a record.
+// The fields of a layout that are passed with nothing kept of them: what the framing needs of a record.
 ghost use Rattle.std.specs.Prelude.{◌≡◌};
 ghost use Rattle.reading.specs.Script.{nothing};
 ghost use Rattle.reading.proofs.Fields.{fields_out};
 ghost use Rattle.xdr.specs.Shown.{Inside, place, passed_out};
-ghost use Rattle.layout.specs.Passing.{end_of, fields_of, row_of, passing};
+ghost use Rattle.layout.specs.Passing.{end_of, fields_of, passing};
 
 use crate::field::protocol;
 use crate::lists::{list, segments};
@@ -35,8 +35,10 @@ fn behind<T: Copy>(read: Read<T>) -> Passed
 }
 
 impl Field {
+    // A row names its fields, so that nothing is left to choose where this is inlined.
+    #[inline(always)]
     #[tactic(auto, unfolding(reading::specs::Cursor::fixed, reading::specs::Cursor::read_item, reading::proofs::Fields::field_out, reading::proofs::Fields::fields_out))]
-    fn pass(self, c: Cursor, s: &[u8]) -> Passed
+    pub fn pass(self, c: Cursor, s: &[u8]) -> Passed
         requires { Inside s.now c }
         ensures { passed_out result nothing ≡ passing (fields_of self) s.now (place c) }
     {
@@ -54,16 +56,4 @@ impl Field {
             Field::Segments => behind(segments(c, s)),
         }
     }
-}
-
-// Past the fields of a row, one behind another.
-pub fn pass(c: Cursor, s: &[u8], row: &[Field]) -> Passed
-    requires { Inside s.now c }
-    ensures { passed_out result nothing ≡ passing (row_of row.now) s.now (place c) }
-{
-    let mut end = c;
-    for field in row {
-        end = field.pass(end, s)?;
-    }
-    Ok(end)
 }

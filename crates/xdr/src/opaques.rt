@@ -31,7 +31,9 @@ impl Cursor {
         Ok((Span { start, count }, end))
     }
 
-    // An opaque that is UTF-8, which is looked at once payload and pad are known to be there. What is not is refused where it goes bad.
+    // An opaque that is UTF-8, which is looked at once payload and pad are known to be there. What is not is refused where it goes bad. It is
+    // inlined, so that a span that nobody asks for is not handed back.
+    #[inline(always)]
     #[tactic(auto, using(crate::proofs::Laws::strings), unfolding(reading::specs::Cursor::read_item, reading::specs::Cursor::read_opaque, reading::specs::Cursor::fixed))]
     pub fn read_string(self, s: &[u8]) -> Read<Span>
         requires { Inside s.now self }

@@ -1,4 +1,4 @@
-use Rattle.std.proofs.Common.{rules, arith}
+use Rattle.std.proofs.Common.{rules}
 use Rattle.reading.specs.Cursor.{fixed, read_item}
 use Rattle.reading.proofs.Fields.{field_out}
 use Rattle.layout.proofs.Protocols.{in_table, off_table}

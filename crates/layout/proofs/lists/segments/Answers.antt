@@ -1,5 +1,5 @@
 use Rattle.std.proofs.Common.{rules, arith, sym, ◌∙◌, ◌-◌, ◌≡◌, ◌+◌}
-use Rattle.reading.specs.Script.{nothing, word}
+use Rattle.reading.specs.Script.{word}
 use Rattle.reading.specs.Cursor.{follow}
 use Rattle.reading.specs.Layout.{segment}
 use Rattle.reading.proofs.Fields.{field_out, run_out}
