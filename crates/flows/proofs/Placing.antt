@@ -1,10 +1,9 @@
 -- The second pass over flow records: a law for each need of its functions, with the facts that the code has there. Assumes nothing.
-use Prim.Native.Nat.{ℕ, zero, suc, ◌+◌, ◌*◌, ◌-◌, ◌/◌, ◌^◌, ◌≤◌, ◌<◌}
+use Prim.Native.Nat.{ℕ, zero, suc, ◌+◌, ◌*◌, ◌-◌, ◌/◌, ◌≤◌, ◌<◌}
 use mathlib.Core.Path.{◌≡◌, sym, ap, ◌∙◌}
 use mathlib.Core.List.{List}
 use native.Mathlib.Omega.{arith}
 use native.Mathlib.Nat.{add-zero}
-use borrow.Author.Rules.{rules}
 use lib.ListN.{length}
 use mir.Syntax.{w32, w64}
 use mir.Val.{Fits}
@@ -15,15 +14,13 @@ use Rattle.reading.specs.Layout.{base as base_mode, words, last_number, opened, 
 use Rattle.reading.specs.Answer.{size, row_of, rows, from}
 use Rattle.reading.specs.Sizes.{descriptor_words, depth_limit}
 use Rattle.reading.proofs.Words.{numbers, row_got}
-use Rattle.reading.proofs.Stored.{write, write_length}
+use Rattle.reading.proofs.Stored.{write}
 use Rattle.reading.proofs.Places.{Accepted, ranges_of, end_of, stopped, PduAt, pdu_lies, EachAt, each_lies, words_lie}
 use Rattle.reading.proofs.Flat.{other_bare}
 use Rattle.reading.proofs.Forward.{forward_times}
 use Rattle.store.specs.declared.Pen.{Pen}
-use Rattle.flows.specs.declared.put.Flat.{Flat}
-use Rattle.flows.specs.Passing.{FlatOf}
-use Rattle.store.specs.Written.{index, Ready, Put, a_pen, held_by, placed, filled, fills, FramedHere, framed_at}
-use Rattle.store.proofs.Placing.{a_put, at_is, word_is, store_is, put_kept, kept_on, ready_first, ready_next, put_turn, own_last, frame_here, frame_word, frame_in, frame_start, frame_kept, frame_inner, frame_placed, frame_alone}
+use Rattle.store.specs.Written.{index, Ready, a_pen, held_by, placed, filled, fills, FramedHere, framed_at}
+use Rattle.store.proofs.Placing.{a_put, at_is, word_is, store_is, put_kept, ready_first, own_last, frame_here, frame_word, frame_in, frame_start, frame_inner, frame_placed, frame_alone}
 
 -- ---- the first of some PDUs
 module _ (left : ℕ) (s l : List ℕ) (at base parent word rest : ℕ) (g : Ready s l (a_pen base parent word) (times rest (follow (pdu (depth_limit - left) (flow base_mode depth_limit left))) s (from at))) (z : 0 < rest) where
@@ -44,9 +41,6 @@ module _ (left : ℕ) (s l : List ℕ) (at base parent word rest : ℕ) (g : Rea
 
   pub pdu_first32 : Fits w32 at
   pdu_first32 = record { fits = omega (arith, pdu_word, g.short) }
-
-  pub pdu_more : Fits w64 (word + descriptor_words)
-  pdu_more = record { fits = omega (arith, g.few) }
 
   pdu_size : size (ranges_of (follow (pdu (depth_limit - left) (flow base_mode depth_limit left)) s (from at))) ≡ 1 + size (ranges_of (times (be4 s at) (follow (flow base_mode depth_limit left)) s (from (at + 4))))
   unfolding size
@@ -78,6 +72,7 @@ module _ (left : ℕ) (s l : List ℕ) (at base parent word rest : ℕ) (g : Rea
       abbrev own_range : Range
       own_range = record { kind = 4; format = 0; span = between (at + 4) a; depth = depth_limit - left; first = at }
 
+      -- and then its own descriptor
       module _ {l'' : List ℕ} (q : l'' ≡ write l' word (row_of parent own_range)) where
         pub pdu_placed : a_put a b l'' ≡ placed (a_pen base parent word) (follow (pdu (depth_limit - left) (flow base_mode depth_limit left)) s (from at)) l
         unfolding placed
@@ -94,16 +89,6 @@ module _ (left : ℕ) (s l : List ℕ) (at base parent word rest : ℕ) (g : Rea
             ∙ ap (λ (x : Forest). write l word (rows (base + word / descriptor_words) parent x)) t in
             λ h. record { at = x h; word = y h; store = d h }
 
-        -- and then its own descriptor
-        pub pdu_turn : {m : ℕ} {u : Put} → length l ≡ m → placed (a_pen base parent word) (times rest (follow (pdu (depth_limit - left) (flow base_mode depth_limit left))) s (from at)) l ≡ u
-            → (length l'' ≡ m) × Ready s l'' (a_pen base parent b) (times (rest - 1) (follow (pdu (depth_limit - left) (flow base_mode depth_limit left))) s (from a))
-            × (placed (a_pen base parent b) (times (rest - 1) (follow (pdu (depth_limit - left) (flow base_mode depth_limit left))) s (from a)) l'' ≡ u)
-        pdu_turn k h = (
-          kept_on (a_pen base parent word) _ l _ pdu_placed k,
-          ready_next (pdu (depth_limit - left) (flow base_mode depth_limit left)) rest s l at base parent word pdu_placed g z,
-          put_turn (pdu (depth_limit - left) (flow base_mode depth_limit left)) rest s l at base parent word pdu_placed g z h,
-        )
-
 -- ---- what a record holds
 abbrev holds : ℕ → ℕ → Script
 holds left f = opened (flows base_mode (pdu (depth_limit - left) (flow base_mode depth_limit left))) f
@@ -116,12 +101,6 @@ module _ (left : ℕ) (s l : List ℕ) (at base word : ℕ) (g : Ready s l (held
 
   pub data_start : Fits w64 (at + 4)
   data_start = record { fits = omega (arith, data_word, g.short) }
-
-  pub data_index : base + word / descriptor_words < 2 ^ 32
-  data_index = omega (arith, g.few)
-
-  pub data_behind : Fits w64 (word + descriptor_words)
-  data_behind = record { fits = omega (arith, g.few) }
 
   pdus : EachAt (words 1) (pdu (depth_limit - left) (flow base_mode depth_limit left)) s at (numbers 1 s at) (record { at = at + 4; steps = 1 })
   unfolding opened flows
@@ -167,10 +146,6 @@ module _ (left : ℕ) (s l : List ℕ) (at : ℕ) (pen : Pen) (g : Ready s l pen
   same_depth : depth_limit + 1 - left ≡ depth_limit - (left - 1)
   same_depth = omega (arith, record_some)
 
-  -- one level is spent
-  pub record_falls : (t : ℕ) → 4 * left ≡ t → 4 * (left - 1) + 3 < t
-  record_falls t e = omega (arith, record_some)
-
   pub record_here : FramedHere s l at pen
   record_here = frame_here 2 (8 - (left - 1)) (holds (left - 1)) s l at pen ready
 
@@ -190,9 +165,6 @@ module _ (left : ℕ) (s l : List ℕ) (at : ℕ) (pen : Pen) (g : Ready s l pen
         frame_alone 2 (8 - (left - 1)) (holds (left - 1)) s l at pen ready d e (q ∙ same_depth) (other_bare base_mode (pdu (8 - (left - 1)) (flow base_mode depth_limit (left - 1))) (be4 s at) s (from (at + 8)) (rw u at z))
         ∙ ap (λ (o : Out Found). placed pen o l) (sym is)
 
-    pub record_kept : length l' ≡ length l
-    record_kept = frame_kept 2 (8 - (left - 1)) (holds (left - 1)) s l at pen ready d e
-
     pub record_inner : f ≡ 1016 → Ready s l' (held_by pen.base pen.word) (follow (opened (flows base_mode (pdu (8 - (left - 1)) (flow base_mode depth_limit (left - 1)))) 1016) s (from (at + 8)))
     record_inner z = frame_inner 2 (8 - (left - 1)) (holds (left - 1)) s l at pen ready d e (sym z ∙ u)
 
@@ -202,21 +174,3 @@ module _ (left : ℕ) (s l : List ℕ) (at : ℕ) (pen : Pen) (g : Ready s l pen
 
 pub one_less : {left : ℕ} → left ≤ depth_limit → left - 1 ≤ depth_limit
 one_less h = omega arith
-
--- its format word, where it is the first of some
-pub flat_first : (left n : ℕ) (s l : List ℕ) (at base parent word : ℕ) → Ready s l (a_pen base parent word) (times n (follow (flow base_mode depth_limit left)) s (from at)) → 0 < n → at + 4 ≤ length s
-flat_first left n s l at base parent word g z = record_word left s l at (a_pen base parent word) (ready_first (flow base_mode depth_limit left) n s l at base parent word g z)
-
-pub flat_here : (left n : ℕ) (s l : List ℕ) (at base parent word : ℕ) → Ready s l (a_pen base parent word) (times n (follow (flow base_mode depth_limit left)) s (from at)) → 0 < n → FramedHere s l at (a_pen base parent word)
-flat_here left n s l at base parent word g z = record_here left s l at (a_pen base parent word) (ready_first (flow base_mode depth_limit left) n s l at base parent word g z)
-
--- ---- those in a row, up to an aggregation
-module _ {left : ℕ} {s l : List ℕ} {at n : ℕ} {pen : Pen} {r : Flat} {l' : List ℕ} (h : FlatOf left s l at n pen r l') where
-  pub flat_ready : Ready s l' (a_pen pen.base pen.parent r.word) (times r.rest (follow (flow base_mode depth_limit left)) s (from r.at))
-  flat_ready = h.ready
-
-  pub flat_length : length l' ≡ length l
-  unfolding placed
-  flat_length = sym (write_length _ _ _) ∙ ap (λ (x : Put). length x.store) h.same ∙ write_length _ _ _
-
-pub ruleset flat = (kept_on, put_kept, ready_first, ready_next, put_turn, record_flat, flat_first, flat_here, rules)

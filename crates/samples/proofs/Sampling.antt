@@ -33,6 +33,12 @@ module _ (f : ℕ) (s : List ℕ) (p : Place) (k : ℕ) where
   counter_got e = counted_none k _ e
 
 -- ---- the words before a sample's records
+
+-- the last of n words, where there is one
+pub last_is : (n : ℕ) (s : List ℕ) (at : ℕ) → 1 ≤ n → last_number (numbers n s at) ≡ be4 s (at + 4 * n - 4)
+last_is zero s at h = absurd (omega arith)
+last_is (suc n) s at h = let z : at + 4 * n ≡ at + 4 * suc n - 4 = omega arith in last_word n s at ∙ ap (λ (j : ℕ). be4 s j) z
+
 module _ (n : ℕ) (s : List ℕ) (c : Cursor) (i : Inside s c) where
   pub last_cut : {x a m : ℕ} → stop x a m ≡ times n (follow any_word) s (place c) → stop x a m ≡ last_of n s (place c)
   last_cut e = sym (rw (run_cut s n (place c) i.inside e))
@@ -48,11 +54,7 @@ module _ (n : ℕ) (s : List ℕ) (c : Cursor) (i : Inside s c) where
         ap (λ (p : Place). p.at) z
 
     pub last_got : 1 ≤ n → got (be4 s (d.at - 4)) (place d) ≡ last_of n s (place c)
-    last_got l = sym (rw (run_row s n (place c) i.inside e).1 (ap (λ (m : ℕ). got m (place d)) (go n l last_ends)))
-      where
-        go : (n : ℕ) → 1 ≤ n → d.at ≡ c.at + 4 * n → last_number (numbers n s c.at) ≡ be4 s (d.at - 4)
-        go zero l z = absurd (omega arith)
-        go (suc n) l z = let y : c.at + 4 * n ≡ d.at - 4 = omega arith in last_word n s c.at ∙ ap (λ (j : ℕ). be4 s j) y
+    last_got l = sym (rw (run_row s n (place c) i.inside e).1 (ap (λ (m : ℕ). got m (place d)) (last_is n s c.at l ∙ ap (λ (j : ℕ). be4 s (j - 4)) (sym last_ends))))
 
 -- ---- what a sample holds, by its kind
 module _ (mode : Mode) {r : SampleKind} {f : ℕ} (q : IsKind r f) (s : List ℕ) (p : Place) (k : ℕ) where

@@ -11,7 +11,7 @@ use crate::kinds::{SampleKind, kind_of};
 use flows::MAX_DEPTH;
 use flows::put::{put_flat_records, put_pdus};
 use load;
-use store::{Pen, Written, index_at, put_frame};
+use store::{Kind, Pen, Written, index_at, put_frame};
 
 // The levels that are left below a sample's own records.
 const LEVELS_BELOW: usize = MAX_DEPTH - 1;
@@ -21,32 +21,15 @@ fn put_counter_records(s: &[u8], at: usize, n: u32, store: &mut [u32], pen: Pen)
     requires { Ready s.now store.old pen (times n (follow counter) s.now (from at)) }
     ensures { written result store.new ≡ placed pen (times n (follow counter) s.now (from at)) store.old }
 {
-    let base = pen.base;
-    let parent = pen.parent;
     let mut cur = at;
     let mut word = pen.word;
-    let mut rest = n;
-    while 0 < rest {
-        let w = put_frame(
-            s,
-            cur,
-            3,
-            1,
-            &mut *store,
-            Pen {
-                base: base,
-                parent: parent,
-                word: word,
-            },
-        );
+    for _ in 0..n {
+        let pen = Pen { word, ..pen };
+        let w = put_frame(s, cur, Kind::CounterRecord as u32, 1, &mut *store, pen);
         cur = w.at;
         word = w.word;
-        rest = rest - 1;
     }
-    Written {
-        at: cur,
-        word: word,
-    }
+    Written { at: cur, word }
 }
 
 // An aggregation among the flow records of a sample: its own descriptor, and its PDUs behind that.
@@ -57,7 +40,7 @@ fn put_aggregation(s: &[u8], at: usize, store: &mut [u32], pen: Pen) -> Written
 {
     let base = pen.base;
     let word = pen.word;
-    let own = put_frame(s, at, 2, 1, &mut *store, pen);
+    let own = put_frame(s, at, Kind::FlowRecord as u32, 1, &mut *store, pen);
     Written {
         at: own.at,
         // Lent anew, so that its two words go to the stack only where there is a call.
@@ -70,27 +53,17 @@ fn put_sample_flows(s: &[u8], at: usize, n: u32, store: &mut [u32], pen: Pen) ->
     requires { Ready s.now store.old pen (times n (follow (flow base_mode depth_limit depth_limit)) s.now (from at)) }
     ensures { filled result store.new ≡ fills pen (times n (follow (flow base_mode depth_limit depth_limit)) s.now (from at)) store.old }
 {
-    let base = pen.base;
-    let parent = pen.parent;
     let mut cur = at;
     let mut word = pen.word;
     let mut rest = n;
+    // A turn takes as many records as were flat, so no range counts them.
     while 0 < rest {
-        let to = Pen {
-            base: base,
-            parent: parent,
-            word: word,
-        };
-        let flat = put_flat_records(s, cur, rest, MAX_DEPTH, &mut *store, to);
+        let flat = put_flat_records(s, cur, rest, MAX_DEPTH, &mut *store, Pen { word, ..pen });
+        word = flat.word;
         if flat.rest == 0 {
-            return flat.word;
+            return word;
         }
-        let to = Pen {
-            base: base,
-            parent: parent,
-            word: flat.word,
-        };
-        let w = put_aggregation(s, flat.at, &mut *store, to);
+        let w = put_aggregation(s, flat.at, &mut *store, Pen { word, ..pen });
         cur = w.at;
         word = w.word;
         rest = flat.rest - 1;
@@ -113,8 +86,7 @@ fn put_sample_data(s: &[u8], at: usize, format: u32, store: &mut [u32], pen: Pen
         SampleKind::Counters(k) => {
             let first = at + 4 * (k as usize);
             let n = load::be32(s, first - 4);
-            let w = put_counter_records(s, first, n, store, pen);
-            w.word
+            put_counter_records(s, first, n, store, pen).word
         }
         SampleKind::Raw => pen.word,
     }
@@ -126,23 +98,16 @@ fn put_sample(s: &[u8], at: usize, store: &mut [u32], pen: Pen) -> Written
     ensures { written result store.new ≡ placed pen (follow (sample base_mode depth_limit) s.now (from at)) store.old }
 {
     let format = load::be32(s, at);
-    let base = pen.base;
-    let me = index_at(base, pen.word);
-    let own = put_frame(s, at, 1, 0, &mut *store, pen);
-    let word = put_sample_data(
-        s,
-        at + 8,
-        format,
-        store,
-        Pen {
-            base: base,
-            parent: me,
-            word: own.word,
-        },
-    );
+    let me = index_at(pen.base, pen.word);
+    let own = put_frame(s, at, Kind::Sample as u32, 0, &mut *store, pen);
+    let pen = Pen {
+        parent: me,
+        word: own.word,
+        ..pen
+    };
     Written {
         at: own.at,
-        word: word,
+        word: put_sample_data(s, at + 8, format, store, pen),
     }
 }
 
@@ -151,28 +116,12 @@ pub fn put_samples(s: &[u8], at: usize, n: u32, store: &mut [u32], pen: Pen) -> 
     requires { Ready s.now store.old pen (times n (follow (sample base_mode depth_limit)) s.now (from at)) }
     ensures { written result store.new ≡ placed pen (times n (follow (sample base_mode depth_limit)) s.now (from at)) store.old }
 {
-    let base = pen.base;
-    let parent = pen.parent;
     let mut cur = at;
     let mut word = pen.word;
-    let mut rest = n;
-    while 0 < rest {
-        let w = put_sample(
-            s,
-            cur,
-            &mut *store,
-            Pen {
-                base: base,
-                parent: parent,
-                word: word,
-            },
-        );
+    for _ in 0..n {
+        let w = put_sample(s, cur, &mut *store, Pen { word, ..pen });
         cur = w.at;
         word = w.word;
-        rest = rest - 1;
     }
-    Written {
-        at: cur,
-        word: word,
-    }
+    Written { at: cur, word }
 }

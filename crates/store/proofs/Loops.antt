@@ -4,7 +4,7 @@ use Rattle.reading.specs.Script.{Script}
 use Rattle.reading.specs.Cursor.{times, follow}
 use Rattle.reading.specs.Answer.{from}
 use Rattle.store.specs.declared.Pen.{Pen}
-use Rattle.store.specs.Written.{Put, Ready, a_pen, placed}
+use Rattle.store.specs.Written.{Ready, a_pen, placed}
 use Rattle.store.proofs.Placing.{a_put, put_done, put_kept, put_turn, ready_first, ready_next}
 
 -- of n from `at` on, whose descriptors go to l from a word on, those behind the first i are left, and go to l' from the word `to` on

@@ -1,6 +1,6 @@
 -- What the second pass puts into the store: one reading behind another, a range and what it holds, a frame. A law for each need of a writer,
 -- with the facts that the code has there. Assumes nothing.
-use Prim.Native.Nat.{ℕ, suc, ◌+◌, ◌*◌, ◌-◌, ◌/◌, ◌^◌, ◌≤◌, ◌<◌}
+use Prim.Native.Nat.{ℕ, suc, ◌+◌, ◌*◌, ◌-◌, ◌/◌, ◌≤◌, ◌<◌}
 use mathlib.Core.Path.{◌≡◌, refl, sym, ap, ◌∙◌}
 use mathlib.Core.List.{List, ◌++◌}
 use native.Mathlib.Omega.{arith}
@@ -39,10 +39,6 @@ module _ {a b : ℕ} {l' : List ℕ} (pen : Pen) (o : Out Found) (l : List ℕ) 
 
   pub put_kept : length l' ≡ length l
   put_kept = ap length store_is ∙ write_length _ _ _
-
--- the store keeps its length, turn after turn
-pub kept_on : {a b : ℕ} {l' : List ℕ} (pen : Pen) (o : Out Found) (l : List ℕ) (n : ℕ) → a_put a b l' ≡ placed pen o l → length l ≡ n → length l' ≡ n
-kept_on pen o l n e k = put_kept pen o l e ∙ k
 
 -- k descriptors on, the index is k more
 pub index_on : (w k : ℕ) → (w + descriptor_words * k) / descriptor_words ≡ w / descriptor_words + k
@@ -135,11 +131,6 @@ module _ (l : List ℕ) (base parent word : ℕ) (r : Range) (inner : Forest) wh
   -- or its own last
   pub own_last : {l' l'' : List ℕ} → l' ≡ write l (word + descriptor_words) held → l'' ≡ write l' word words_of → l'' ≡ write l word (rows (base + word / descriptor_words) parent (tree r inner bare))
   own_last h q = q ∙ ap (λ (z : List ℕ). write z word words_of) h ∙ write_under words_of held l word (word + descriptor_words) refl ∙ both_written
-
--- ---- numbers that fit
-module _ (s l : List ℕ) (pen : Pen) (o : Out Found) (g : Ready s l pen o) where
-  pub pen_index : index pen < 2 ^ 32
-  pen_index = omega (arith, g.few)
 
 -- ---- a frame: its format word, its opaque, and what that holds
 module _ (kind depth : ℕ) (body : ℕ → Script) (s l : List ℕ) (at : ℕ) (pen : Pen) (g : Ready s l pen (follow (framed kind depth body) s (from at))) where

@@ -1,0 +1,6 @@
+use Rattle.reading.specs.Layout.{counter}
+use Rattle.store.proofs.Loops.{Left}
+use Rattle.samples.proofs.put.put_counter_records.Given as goal
+
+abbrev pub invariant-loop : goal.invariant-loop
+invariant-loop l = Left counter l.s l.n l.pen l.at l.fn.store l.counter l.cur l.word l.store
