@@ -131,18 +131,17 @@ def reader(layout):
 
 
 def read_answers(layout):
-    """Where a field of several items was read, that the cursor behind it is inside: what each call behind it requires."""
-    steps, called, sure, lines = steps_of(layout), {}, [], []
-    for step, bound, _ in steps:
+    """Behind a field of which nobody knows how many items it is, that the cursor is inside: what each call there requires."""
+    called, sure, behind, lines = {}, [], False, []
+    for step, bound, _ in steps_of(layout):
         call = re.search(r'(\w+)(?:::<\d+>)?\(', step.call)[1]
         called[call] = called.get(call, 0) + 1
         goal = call + '-requires' + '-%d' % called[call] * (called[call] > 1)
-        if sure:
+        if behind:
             lines += ['', 'pub %s : goal.%s' % (goal, goal), '%s c =' % goal, *sure, '    search rules']
-        if sure or step.several:
-            before = 'i%d' % len(sure) if sure else 'c.requires'
-            law, given = step.law.split()
-            sure.append('    let i%d = %s _ _ %s %s c.in_ok-%s.ensures in' % (len(sure) + 1, law, before, given, re.search(r'\b[a-z]\w*', bound)[0]))
+        before, (law, given) = 'i%d' % len(sure) if sure else 'c.requires', step.law.split()
+        sure.append('    let i%d = %s _ _ %s %s c.in_ok-%s.ensures in' % (len(sure) + 1, law, before, given, re.search(r'\b[a-z]\w*', bound)[0]))
+        behind = behind or step.several
     return lines
 
 

@@ -24,4 +24,4 @@ opened_flat f rows (other {r} {rest} n t) = rw (ne_eqb r.format f n) (opened_fla
 
 pub flow_opened : (mode : Mode) (f : ℕ) → (f ≡ 1016 → ⊥) → opened (flows mode (give nothing)) f ≡ fields (layout_of mode 2 f) (λ vs. give nothing)
 unfolding layout_of flows
-flow_opened mode f n = opened_flat f _ (search (none, flat, other, λ (e : 1016 ≡ f). n (sym e)) depth 24)
+flow_opened mode f n = opened_flat f _ (search (none, flat, other, λ (e : 1016 ≡ f). n (sym e)) depth 48)
