@@ -1,10 +1,11 @@
 // The first pass over samples, which counts descriptors and keeps nothing.
 ghost use Rattle.std.specs.Prelude.{◌≡◌, ◌≤◌};
 ghost use Rattle.reading.specs.Sizes.{depth_limit};
+ghost use Rattle.reading.specs.Script.{nothing};
 ghost use Rattle.reading.specs.Cursor.{times, follow};
-ghost use Rattle.reading.specs.Layout.{opened, flow, counter, samples, sample};
+ghost use Rattle.reading.specs.Layout.{any_word, opened, flow, counter, samples, sample};
 ghost use Rattle.reading.proofs.Counts.{counted};
-ghost use Rattle.xdr.specs.Shown.{place, Inside, read_out};
+ghost use Rattle.xdr.specs.Shown.{place, Inside, passed_out};
 ghost use Rattle.layout.specs.Scanned.{Scan};
 ghost use Rattle.layout.specs.Shown.{mode_of, scanned_out};
 ghost use Rattle.samples.specs.Held.{last_of};
@@ -15,7 +16,7 @@ use flows::{MAX_DEPTH, scan, scan_ahead};
 use layout::field::Mode;
 use layout::frames::{Frame, Scanned};
 use load;
-use xdr::{Cursor, Read};
+use xdr::{Cursor, Passed, Read};
 
 // One counter record, whose payload has no descriptor more.
 fn counter_record(s: &[u8], c: Cursor, count: usize) -> Scanned
@@ -56,13 +57,24 @@ fn flow_records(s: &[u8], c: Cursor, n: u32, mode: Mode, count: usize) -> Scanne
     scan::flow_records(&*s, ahead.cursor, ahead.rest, MAX_DEPTH, mode, ahead.count)
 }
 
+// Past n words. Most samples have eight, which is then a number that the compiler knows.
+fn past_words(c: Cursor, s: &[u8], n: u32) -> Passed
+    requires { Inside s.now c }
+    ensures { passed_out result nothing ≡ times n (follow any_word) s.now (place c) }
+{
+    if n == 8 {
+        return c.read_words(s, 8);
+    }
+    c.read_words(s, n)
+}
+
 // Past n words, and the last of them.
 fn last_word(c: Cursor, s: &[u8], n: u32) -> Read<u32>
     requires inside { Inside s.now c }
     requires some { 1 ≤ n }
     ensures { scanned_out result ≡ last_of n s.now (place c) }
 {
-    let end = c.read_words(s, n)?;
+    let end = past_words(c, s, n)?;
     Ok((load::be32(s, end.at - 4), end))
 }
 
