@@ -70,10 +70,7 @@ impl Decoded {
     {
         Decoded {
             answer,
-            agent_address: Address {
-                kind: 0,
-                bytes: [0; 16],
-            },
+            agent_address: Address::default(),
             sub_agent_id: 0,
             sequence_number: 0,
             uptime: 0,

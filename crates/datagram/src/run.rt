@@ -26,6 +26,7 @@ fn scan_run(s: &[u8], mode: Mode) -> Scanned
 {
     let mut cur = START;
     let mut found = 0;
+    // A turn takes a datagram, whose length only its reading tells, so no range counts them.
     while cur.at < s.len() {
         match scan_datagram(s, cur, mode, found) {
             Ok((k, d)) => {
@@ -70,6 +71,7 @@ fn put_run(s: &[u8], store: &mut [u32])
 {
     let mut cur = 0;
     let mut word = 0;
+    // The same turns as the first pass takes.
     while cur < s.len() {
         let w = put_next(s, cur, &mut *store, word);
         cur = w.at;

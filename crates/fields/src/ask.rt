@@ -21,7 +21,7 @@ pub fn unread(reason: Reason) -> Refusal
     }
 }
 
-// Where to read from, and where the range ends.
+// Where to read from, and where the range ends. Kind and format are numbers, as in a descriptor that a host hands back.
 #[tactic(auto, unfolding(reading::specs::Answer::read))]
 pub fn ask(s: &[u8], d: &Words, kind: u32, format: u32) -> Result<(Cursor, usize), Refusal>
     ensures { Asks kind format s.now d.now result }

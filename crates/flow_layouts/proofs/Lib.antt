@@ -1,2 +1,2 @@
 pub mod Formats
-mod Zeros
+pub mod Zeros

@@ -1,4 +1,5 @@
-// Flow records, aggregations and PDUs, which hold one another: the first pass, which counts descriptors and keeps nothing.
+// Flow records, aggregations and PDUs, which hold one another: the first pass, which counts descriptors and keeps nothing. Its loops are functions
+// of their own and not one that is told what to read, since a cycle through a closure gets no proof.
 ghost use Rattle.std.specs.Prelude.{◌≡◌, ◌-◌, ◌≤◌};
 ghost use Rattle.reading.specs.Sizes.{depth_limit};
 ghost use Rattle.reading.specs.Cursor.{times, follow};

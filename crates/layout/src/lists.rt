@@ -26,7 +26,7 @@ pub fn list(c: Cursor, s: &[u8]) -> Read<Span>
     Ok((list, end))
 }
 
-// A segment of an AS path: its type, and where its AS numbers lie.
+// A segment of an AS path: its type, which may be any number, and where its AS numbers lie.
 #[repr(C)]
 #[derive(Clone, Copy, Default)]
 pub struct Segment {

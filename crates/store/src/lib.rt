@@ -20,7 +20,8 @@ pub enum Kind {
     Pdu = 4,
 }
 
-// Where descriptors go: the index of this part's first, the parent's index, and the word of this part where the next one begins.
+// Where descriptors go: the index of this part's first, the parent's index, and the word of this part where the next one begins. The store is no
+// part of it, since its rest is lent on from a word (docs/RULES.md, R15.5).
 #[derive(Clone, Copy)]
 pub struct Pen {
     pub base: u32,
@@ -72,7 +73,7 @@ pub fn put(store: &mut [u32], at: usize, d: Descriptor)
     store[at + 6] = d.first;
 }
 
-// The descriptor of the frame at `at`; past the frame.
+// The descriptor of the frame at `at`; past the frame. The kind is a number, as the descriptor has it.
 #[tactic(auto, unfolding(crate::specs::Written::framed_at))]
 pub fn put_frame(s: &[u8], at: usize, kind: u32, depth: u32, store: &mut [u32], pen: Pen) -> Written
     requires { FramedHere s.now store.old at pen }

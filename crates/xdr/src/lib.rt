@@ -15,7 +15,8 @@ pub const MAX_INPUT_SIZE: usize = 16777216;
 // The bytes of the longest opaque, as the crate has it.
 pub const MAX_OPAQUE_SIZE: u32 = 104857600;
 
-// Where a reading stands: the next byte, counted from the input's first, and the items read so far.
+// Where a reading stands: the next byte, counted from the input's first, and the items read so far. It goes by value beside the input, which a
+// part of it takes the place of inside each opaque (docs/RULES.md, R15.1).
 #[derive(Clone, Copy)]
 pub struct Cursor {
     pub at: usize,
@@ -69,7 +70,7 @@ pub struct Span {
     pub count: usize,
 }
 
-// An address: its type, and sixteen bytes of which type 1 uses the first four; unused ones are zero.
+// An address, as C has it: its type, and sixteen bytes of which type 1 uses the first four; unused ones are zero.
 #[repr(C)]
 #[derive(Clone, Copy, Default)]
 pub struct Address {

@@ -40,6 +40,7 @@ impl Cursor {
         Ok((load::int32(word), d))
     }
 
+    // Two lines like those of `read_u32`: a trait that both widths share would say no less.
     #[tactic(auto, unfolding(reading::specs::Cursor::fixed, reading::specs::Cursor::read_item))]
     pub fn read_u64(self, s: &[u8]) -> Read<u64>
         requires { Inside s.now self }
