@@ -98,7 +98,8 @@ pub fn pass(c: Cursor, s: &[u8], format: u32) -> Passed
 {
     let row = fixed(format);
     if s.len() - c.at < row.bytes {
-        return by_items(c, s, row.widths);
+        // Asked for anew, so that where all is there the widths themselves are not kept.
+        return by_items(c, s, fixed(format).widths);
     }
     Ok(Cursor {
         at: c.at + row.bytes,
