@@ -2,12 +2,11 @@
 use Prim.Native.Nat.{ℕ, ◌+◌, ◌*◌, ◌≤◌, ◌<◌}
 use mathlib.Core.Bool.{Bool, true, false, cond}
 use mathlib.Core.Path.{◌≡◌, refl, sym, ap, ◌∙◌, subst}
-use mathlib.Core.List.{List, [], ◌∷◌, ◌++◌}
+use mathlib.Core.List.{List, ◌++◌}
 use native.Mathlib.Omega.{arith}
-use borrow.Author.Rules.{rules}
 use borrow.Author.Tests.{leb-true, le-leb, lt-leb}
 use lib.Dec.{leb}
-use lib.ListN.{length, take, drop, get_or}
+use lib.ListN.{length, take, drop}
 use lib.Seq.{length-take-le}
 use Rattle.reading.specs.Script.{Value, Forest, Found}
 use Rattle.reading.specs.Cursor.{Place, Out, got, stop, times, follow}
@@ -25,7 +24,7 @@ use Rattle.reading.proofs.Stored.{write, write_length, write_all, rows_length}
 use Rattle.reading.proofs.Places.{Accepted, accepted, ranges_of, end_of}
 use Rattle.xdr.specs.declared.Cursor.{Cursor}
 use Rattle.store.specs.Written.{Ready, placed}
-use Rattle.store.proofs.Placing.{a_put, store_is, put_kept}
+use Rattle.store.proofs.Placing.{a_put, store_is}
 use Rattle.datagram.specs.declared.decode.Answer.{Answer}
 use Rattle.datagram.specs.declared.decode.Decoded.{Decoded}
 use Rattle.datagram.specs.Shown.{root, decoded, header_fields, Refuses, IsRead, values_of, Accepts, ran}

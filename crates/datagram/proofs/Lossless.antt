@@ -1,6 +1,6 @@
 -- What is shown of this crate's results loses nothing: an answer with the store that it leaves, a header's fields, what a pass has come to.
 -- Assumes nothing.
-use Rattle.std.proofs.Common.{ℕ, ◌≡◌, refl, List, get_or}
+use Rattle.std.proofs.Common.{ℕ, refl, List, get_or}
 use Rattle.reading.specs.Script.{Value, number}
 use Rattle.reading.specs.Answer as answer
 use Rattle.reading.specs.Layout.{num}

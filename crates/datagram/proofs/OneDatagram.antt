@@ -1,5 +1,5 @@
 -- One datagram, taken apart: its header, its samples, and its own range around them. Assumes nothing.
-use Rattle.std.proofs.Common.{ℕ, ◌+◌, ◌*◌, ◌-◌, ◌/◌, ◌^◌, ◌≡◌, ◌≤◌, ◌<◌, refl, sym, ap, ◌∙◌, List, length, arith, Fits, w32}
+use Rattle.std.proofs.Common.{ℕ, ◌+◌, ◌*◌, ◌-◌, ◌/◌, ◌≡◌, ◌≤◌, refl, sym, ap, ◌∙◌, List, length, arith, Fits, w32}
 use mathlib.Core.Path.{subst}
 use native.Mathlib.Nat.{add-zero}
 use Rattle.reading.specs.Script.{Value, Range, Forest, bare, tree, Found}
@@ -18,7 +18,7 @@ use Rattle.xdr.specs.declared.Cursor.{Cursor}
 use Rattle.xdr.specs.Shown.{place}
 use Rattle.layout.specs.Scanned.{Scan}
 use Rattle.layout.proofs.Scan.{scan_row}
-use Rattle.store.specs.Written.{index, Ready, Put, a_pen, held_by, placed}
+use Rattle.store.specs.Written.{index, Ready, a_pen, held_by, placed}
 use Rattle.store.proofs.Placing.{a_put, at_is, word_is, store_is, put_kept, own_last}
 use Rattle.datagram.specs.Shown.{root}
 

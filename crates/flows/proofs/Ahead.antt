@@ -3,17 +3,16 @@ use Rattle.std.proofs.Common.{ℕ, ◌+◌, ◌-◌, ◌≡◌, ◌≤◌, ◌<�
 use Rattle.std.specs.Result.{result_ok}
 use Rattle.reading.specs.Sizes.{longest_input, longest_opaque, depth_limit}
 use Rattle.reading.specs.Bytes.{be4, padded}
-use Rattle.reading.specs.Script.{nothing, opaque, Script, give}
+use Rattle.reading.specs.Script.{nothing, opaque, Script}
 use Rattle.reading.specs.Cursor.{got, fixed, read_item, read_opaque, times, follow}
 use Rattle.reading.specs.Layout.{Mode, any_word, memo, flows, flow, plain, protocol, words}
 use Rattle.reading.specs.Answer.{layout_of}
-use Rattle.reading.proofs.Counts.{counted, frame_at}
+use Rattle.reading.proofs.Counts.{frame_at}
 use Rattle.reading.proofs.Fields.{field_out, fields_out}
 use Rattle.xdr.specs.declared.Cursor.{Cursor}
 use Rattle.xdr.specs.Shown.{Inside, Passed, passed_out, place, resumed}
 use Rattle.layout.specs.declared.frames.Frame.{Frame}
 use Rattle.layout.specs.Passing.{passing}
-use Rattle.layout.specs.Scanned.{Scan}
 use Rattle.layout.specs.Shown.{a_frame, first_of}
 use Rattle.layout.proofs.Passing.{passed_words, passing_is}
 use Rattle.layout.proofs.Protocols.{in_table}

@@ -1,5 +1,5 @@
 -- The first pass over flow records: a law for each way out of its functions. Assumes nothing.
-use Rattle.std.proofs.Common.{ℕ, zero, suc, ◌+◌, ◌-◌, ◌≡◌, refl, sym, ap, ◌∙◌, List, [], ◌∷◌, arith}
+use Rattle.std.proofs.Common.{ℕ, zero, suc, ◌+◌, ◌-◌, ◌≡◌, refl, sym, ap, ◌∙◌, List}
 use native.Mathlib.Numerals.{sub-one}
 use borrow.Author.Tests.{ne_eqb}
 use Rattle.reading.specs.Sizes.{depth_limit}

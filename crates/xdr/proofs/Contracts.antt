@@ -6,7 +6,7 @@ use Rattle.reading.specs.Script.{number, integer, octets, word, long, int, opaqu
 use Rattle.reading.specs.Cursor.{fixed, read_item, times, follow}
 use Rattle.reading.specs.Layout.{addr, any_word}
 use Rattle.reading.proofs.Fields.{field_out}
-use Rattle.xdr.specs.Shown.{a_part, accepted, an_address, behind, code_of, ended, ill_formed_of, passed_of, passed_out, place, read_out, refused, resumed}
+use Rattle.xdr.specs.Shown.{a_part, accepted, an_address, behind, code_of, ill_formed_of, passed_of, passed_out, place, read_out, refused, resumed}
 use Rattle.xdr.proofs.Settles.{Settles, settled}
 use Rattle.xdr.proofs.Lossless.{address_read_lossless, block_lossless, int_lossless, part_read_lossless, passed_lossless, word_lossless}
 use Rattle.xdr.proofs as call

@@ -1,5 +1,5 @@
 -- What is shown of a result loses nothing: an item's answer, a span, an address and a refusal are got back from it. Assumes nothing.
-use Rattle.std.proofs.Common.{ℕ, ◌≡◌, refl, ap, ◌∙◌, sym, List, [], ◌∷◌, get_or, ℤ, pos, Ok, Err}
+use Rattle.std.proofs.Common.{ℕ, ◌≡◌, refl, ap, List, [], ◌∷◌, get_or, ℤ, pos, Ok, Err}
 use Rattle.reading.specs.Script as script
 use Rattle.reading.specs.Script.{Value, number, integer, octets, address, part, nothing, Found}
 use Rattle.reading.specs.Cursor.{Place, Out, got, stop}

@@ -1,4 +1,4 @@
-use Rattle.std.proofs.Common.{rules, ◌∙◌}
+use Rattle.std.proofs.Common.{◌∙◌}
 use Rattle.layout.specs.Shown.{mode_of}
 use Rattle.datagram.proofs.Deciding.{all_ready, all_stored, is_read, no_room, stays, too_long}
 use Rattle.datagram.proofs.decode.decode.Goals as goal

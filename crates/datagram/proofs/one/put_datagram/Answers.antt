@@ -1,4 +1,3 @@
-use Rattle.std.proofs.Common.{arith}
 use Rattle.reading.specs.Layout.{last_number}
 use Rattle.datagram.specs.Shown.{header_fields}
 use Rattle.datagram.proofs.OneDatagram.{datagram_placed, end_forward, header_there, length32, own_room, samples_ready}

@@ -1,7 +1,6 @@
 use Rattle.std.proofs.Common.{rules}
 use Rattle.reading.specs.Layout.{last_number}
 use Rattle.layout.specs.Shown.{mode_of}
-use Rattle.datagram.specs.Shown.{header_fields}
 use Rattle.datagram.proofs.OneDatagram.{header_held, header_scan, header_stop}
 use Rattle.datagram.proofs.one.scan_datagram.Goals as goal
 

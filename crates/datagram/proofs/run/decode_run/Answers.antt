@@ -1,6 +1,5 @@
-use Rattle.std.proofs.Common.{rules, ◌∙◌}
 use Rattle.layout.specs.Shown.{mode_of}
-use Rattle.datagram.proofs.Deciding.{run_end, run_inside, run_no_room, run_part, run_ready, run_stays, run_stored, run_too_long}
+use Rattle.datagram.proofs.Deciding.{run_end, run_no_room, run_part, run_ready, run_stays, run_stored, run_too_long}
 use Rattle.datagram.proofs.run.decode_run.Goals as goal
 
 pub returns-then-s-gt-MAX_INPUT_SIZE : goal.returns-then-s-gt-MAX_INPUT_SIZE

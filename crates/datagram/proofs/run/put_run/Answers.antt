@@ -1,4 +1,3 @@
-use Rattle.std.proofs.Common.{length}
 use Rattle.datagram.proofs.Running.{first_ready, next_end, next_inside, next_less, next_placed, next_ready, run_all}
 use Rattle.datagram.proofs.run.put_run.Goals as goal
 

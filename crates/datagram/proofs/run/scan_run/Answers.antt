@@ -1,5 +1,4 @@
-use Rattle.std.proofs.Common.{ap, ◌∙◌}
-use Rattle.xdr.specs.declared.Reason.{Reason}
+use Rattle.std.proofs.Common.{ap}
 use Rattle.xdr.specs.Shown.{code_of}
 use Rattle.layout.specs.Shown.{mode_of}
 use Rattle.datagram.proofs.Running.{other_code, scanned_ends, scanned_less, scanned_on, scanned_over, scanned_stops, scanned_turn}

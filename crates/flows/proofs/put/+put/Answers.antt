@@ -1,6 +1,6 @@
 use Rattle.std.proofs.Common.{arith, refl, rules}
 use Rattle.store.proofs.Loops.{left_all, left_done, left_first, left_next}
-use Rattle.flows.proofs.Placing.{data_filled, data_inner, data_start, data_word, one_less, pdu_first32, pdu_forward, pdu_inner, pdu_length32, pdu_own, pdu_placed, pdu_start, pdu_start32, pdu_word, record_flat, record_here, record_in, record_inner, record_placed, record_some, record_start, record_word}
+use Rattle.flows.proofs.Placing.{data_filled, data_inner, data_word, one_less, pdu_first32, pdu_forward, pdu_inner, pdu_length32, pdu_own, pdu_placed, pdu_start, pdu_start32, pdu_word, record_flat, record_here, record_in, record_inner, record_placed, record_some, record_start, record_word}
 use Rattle.flows.proofs.put.+put.Goals as goal
 
 -- ---- a record

@@ -1,12 +1,10 @@
-use Rattle.std.proofs.Common.{ℕ, ◌+◌, ◌-◌, ◌≡◌, rules, arith, sym, ap, ◌∙◌, length-take-le}
+use Rattle.std.proofs.Common.{◌-◌, rules, sym, ◌∙◌}
 use Rattle.reading.specs.Sizes.{depth_limit}
-use Rattle.reading.specs.Cursor.{Out, times, follow}
 use Rattle.reading.specs.Layout.{flow, pdu}
-use Rattle.reading.proofs.Counts.{counted, pdu_cut, pdu_held}
-use Rattle.xdr.specs.Shown.{place}
+use Rattle.reading.proofs.Counts.{pdu_cut, pdu_held}
 use Rattle.layout.specs.Shown.{mode_of}
-use Rattle.layout.proofs.Scan.{frame_count, frame_ends, frame_scan, scan_count, scan_done, scan_on, scan_stop, scan_turn, scan_word}
-use Rattle.flows.proofs.Scanning.{aggregation_cut, aggregation_held, data_got, data_stop, flow_thrift, holds, pdu_thrift, record_cut, record_deep, record_got, record_stop}
+use Rattle.layout.proofs.Scan.{frame_ends, frame_scan, scan_count, scan_done, scan_on, scan_stop, scan_turn, scan_word}
+use Rattle.flows.proofs.Scanning.{aggregation_cut, aggregation_held, data_got, data_stop, flow_thrift, pdu_thrift, record_cut, record_deep, record_got, record_stop}
 use Rattle.flows.proofs.scan.+scan.Goals as goal
 
 -- ---- what a record holds

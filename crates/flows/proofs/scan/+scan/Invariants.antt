@@ -1,4 +1,4 @@
-use Rattle.std.proofs.Common.{ℕ, ◌≡◌, ◌-◌, ◌+◌, ◌*◌}
+use Rattle.std.proofs.Common.{◌≡◌, ◌-◌, ◌+◌, ◌*◌}
 use Rattle.reading.specs.Sizes.{depth_limit}
 use Rattle.reading.specs.Cursor.{times, follow}
 use Rattle.reading.specs.Layout.{flow, pdu}
