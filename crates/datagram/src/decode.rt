@@ -15,7 +15,7 @@ use xdr::{Address, Cursor, MAX_INPUT_SIZE, Reason, Refusal};
 // Where every reading begins.
 pub const START: Cursor = Cursor { at: 0, steps: 0 };
 
-// What a call answers: its code (docs/RULES.md, 5), the position, the steps, and the descriptors needed.
+// What a call answers, as C has it: its code (docs/RULES.md, 5), the position, the steps, and the descriptors needed.
 #[repr(C)]
 #[derive(Clone, Copy)]
 pub struct Answer {
@@ -25,7 +25,7 @@ pub struct Answer {
     pub needed: usize,
 }
 
-// The answer to one datagram, with its header; that is all zero on a refusal.
+// The answer to one datagram, as C has it, with its header; that is all zero on a refusal.
 #[repr(C)]
 #[derive(Clone, Copy)]
 pub struct Decoded {
@@ -65,6 +65,7 @@ impl Answer {
 }
 
 impl Decoded {
+    // Zeros by hand: a `Default` of an answer would have code 0, which is no refusal.
     fn refused(answer: Answer) -> Decoded
         ensures { Refuses result answer }
     {

@@ -59,6 +59,7 @@ pub fn put_datagram(s: &[u8], at: usize, store: &mut [u32], base: u32) -> Writte
             format: DataFormat(0),
             start: start,
             length: (end - at) as u32,
+            // No parent, as C has it (docs/RULES.md, R7.2).
             parent: 4294967295,
             depth: 0,
             first: start,

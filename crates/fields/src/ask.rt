@@ -45,7 +45,7 @@ pub fn ask(s: &[u8], d: &Words, kind: u32, format: u32) -> Result<(Cursor, usize
     Ok((first, end))
 }
 
-// The fields of a descriptor of this kind and format, as the record T has them.
+// The fields of a descriptor of this kind and format, which are numbers as in `ask`, as the record T has them.
 pub fn read<T: Record>(s: &[u8], d: &Words, kind: u32, format: u32, mode: Mode) -> Reading<T>
     requires { T.layout (mode_of mode) ≡ layout_of (mode_of mode) kind format }
     ensures { answer_of result.outcome (T.values result.fields) ≡ read_at (mode_of mode) kind format s.now d.now }

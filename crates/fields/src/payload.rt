@@ -7,7 +7,7 @@ use crate::descriptor::{Words, descriptor};
 use load;
 use xdr::{MAX_INPUT_SIZE, Span};
 
-// Where a descriptor's payload lies. It is empty where a field reading would refuse the range.
+// Where a descriptor's payload lies. It is empty where a field reading would refuse the range: C has a start and a count, and no None.
 #[tactic(auto, unfolding(reading::specs::Answer::payload_span_of))]
 pub fn payload_span(s: &[u8], d: &Words) -> Span
     ensures { span result ≡ payload_span_of s.now (get_or d.now 2 0) (get_or d.now 3 0) }

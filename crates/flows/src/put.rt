@@ -1,4 +1,5 @@
 // Flow records as descriptors: a second pass over what the first has accepted, which goes by frames alone.
+// An aggregation is known by its format, 1016, as docs/RULES.md names it: an enum would have that case and, for all other numbers, one more.
 ghost use Rattle.std.specs.Prelude.{◌≡◌, ◌-◌, ◌≤◌, length};
 ghost use Rattle.reading.specs.Sizes.{depth_limit};
 ghost use Rattle.reading.specs.Bytes.{be4};

@@ -47,6 +47,7 @@ fn flow_record(s: &[u8], c: Cursor, left: usize, mode: Mode, count: usize) -> Sc
 }
 
 // What a flow record of this format holds, with `left` levels left below it.
+// An aggregation is known by its format, 1016, as docs/RULES.md names it: an enum would have that case and, for all other numbers, one more.
 #[cycle(scan)]
 fn flow_data(s: &[u8], c: Cursor, format: u32, left: usize, mode: Mode, count: usize) -> Scanned
     requires { Scan s.now c count }

@@ -18,7 +18,7 @@ pub trait Record: Copy {
 
     ghost values: { Self → List Value };
 
-    // All zero, as it stands beside a refusal.
+    // All zero, as it stands beside a refusal. Each impl writes it, since `Default` says nothing of a layout.
     fn zero() -> Self
         ensures { (mode : reading.Mode) → values result ≡ zeros (layout mode) };
 
@@ -36,7 +36,7 @@ fn read_on<T: Record>(p: Passed, s: &[u8], mode: Mode) -> Read<T>
     T::read(c, s, mode)
 }
 
-// What a field reading answers: how it ended, and the fields; they are zero on a refusal.
+// What a field reading answers, in the form that C gets: how it ended, and the fields; they are zero on a refusal.
 #[repr(C)]
 #[derive(Clone, Copy)]
 pub struct Reading<T> {

@@ -10,6 +10,7 @@ const MOST: usize = 8192;
 
 const STORE_WORDS: usize = MOST / 4 * DESCRIPTOR_WORDS;
 
+// What both listings do stands in `listing_lines`: here are arrays of the program's own size, which no argument gives, and its call.
 fn main(rt: HostRuntime) -> io::Result<()> {
     let mut buffer = [0u8; MOST + 1];
     let Some((mode, s)) = listing_lines::given(&rt, &mut buffer)? else {

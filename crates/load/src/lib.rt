@@ -23,7 +23,7 @@ pub fn be32(s: &[u8], at: usize) -> u32
     u32::from_be_bytes([s[at], s[at + 1], s[at + 2], s[at + 3]])
 }
 
-// The big-endian number of eight bytes.
+// The big-endian number of eight bytes: of its two words, as `be8` says it.
 #[tactic(auto, unfolding(reading::specs::Bytes::be8))]
 pub fn be64(s: &[u8], at: usize) -> u64
     requires { at + 8 ≤ length s.now }
@@ -43,7 +43,7 @@ pub fn padded(count: usize) -> usize
     (count + 3) / 4 * 4
 }
 
-// A word as a signed number, in two's complement.
+// A word as a signed number, in two's complement: the library's method, whose contract here stands under this name.
 #[tactic(auto, unfolding(reading::specs::Bytes::signed))]
 pub fn int32(word: u32) -> i32
     ensures { result ≡ signed word }

@@ -30,7 +30,7 @@ pub struct DataSource(pub u32);
 #[derive(Clone, Copy, Debug, Default, PartialEq, Eq, PartialOrd, Ord, Hash)]
 pub struct Interface(pub u32);
 
-// The formats of an interface that have a meaning.
+// The formats of an interface that have a meaning: each is asked for by a public function of its own.
 #[derive(Clone, Copy)]
 enum Meaning {
     Single = 0,

@@ -23,6 +23,7 @@ impl fmt::Display for Hex<'_> {
     }
 }
 
+// Bytes as they are. The programs print by format strings; this and `number` stay, since they are public.
 pub fn text(rt: &impl Print, s: &[u8]) -> io::Result<()> {
     rt.write_all(s)
 }

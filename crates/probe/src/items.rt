@@ -21,6 +21,7 @@ trait Shown: Copy {
     }
 }
 
+// Three numbers, a line each: a trait that they share, for one impl of all, would be no shorter.
 impl Shown for u32 {
     fn print(self, rt: &impl Print) -> io::Result<()> {
         print!(rt; " got={self}")
@@ -111,7 +112,7 @@ fn words(rt: &impl Print, v: Vector, count: u8, passed: Passed) -> io::Result<()
     }
 }
 
-// The item of this letter, read at `start` of s with no step before it.
+// The item of this letter, read at `start` of s with no step before it. The letters stand here alone, so an enum of them would be no plainer.
 pub fn item(rt: &impl Print, letter: u8, count: u8, start: usize, s: &[u8]) -> io::Result<()> {
     let v = Vector { bytes: s, start };
     if s.len() < start {

@@ -11,7 +11,7 @@ pub trait Shown: Copy {
     fn show(self, rt: &impl Print) -> io::Result<()>;
 }
 
-// Fields of a record by their names, one behind another.
+// Fields of a record by their names, one behind another. Each record has an impl of its own: `rt ci` takes none that a macro here writes.
 macro_rules! show_each {
     ($rt:expr, $record:expr; $($field:ident),+) => {{
         $($record.$field.show($rt)?;)+
@@ -21,6 +21,7 @@ macro_rules! show_each {
 
 pub(crate) use show_each;
 
+// A line each, for two numbers here and two words of two parts below: a trait that they share, for one impl, would be no shorter.
 impl Shown for u32 {
     fn show(self, rt: &impl Print) -> io::Result<()> {
         print!(rt; " {self}")

@@ -1,4 +1,4 @@
-// The second pass over samples: descriptors, written by frames alone.
+// The second pass over samples: descriptors, written by frames alone. Its loops stay apart, a few lines each (docs/DECISIONS.md, 17).
 ghost use Rattle.std.specs.Prelude.{◌≡◌, ◌≤◌, length};
 ghost use Rattle.reading.specs.Sizes.{depth_limit};
 ghost use Rattle.reading.specs.Bytes.{be4};

@@ -1,4 +1,4 @@
-// The first pass over samples, which counts descriptors and keeps nothing.
+// The first pass over samples, which counts descriptors and keeps nothing. Its loops stay apart, a few lines each (docs/DECISIONS.md, 17).
 ghost use Rattle.std.specs.Prelude.{◌≡◌, ◌≤◌};
 ghost use Rattle.reading.specs.Sizes.{depth_limit};
 ghost use Rattle.reading.specs.Script.{nothing};

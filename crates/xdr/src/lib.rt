@@ -53,7 +53,7 @@ pub type Read<T> = Result<(T, Cursor), Refusal>;
 // What was read is passed, and its value is not in the answer.
 pub type Passed = Result<Cursor, Refusal>;
 
-// How a reading ends, in plain numbers: its code, the position, and the items read. Code 0 is no refusal.
+// How a reading ends, in plain numbers as C has them: its code, the position, and the items read. Code 0 is no refusal.
 #[repr(C)]
 #[derive(Clone, Copy)]
 pub struct Outcome {
