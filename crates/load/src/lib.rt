@@ -23,15 +23,13 @@ pub fn be32(s: &[u8], at: usize) -> u32
     u32::from_be_bytes([s[at], s[at + 1], s[at + 2], s[at + 3]])
 }
 
-// The big-endian number of eight bytes: of its two words, as `be8` says it.
-#[tactic(auto, unfolding(reading::specs::Bytes::be8))]
+// The big-endian number of eight bytes.
+#[tactic(auto, unfolding(reading::specs::Bytes::be8, reading::specs::Bytes::be4))]
 pub fn be64(s: &[u8], at: usize) -> u64
     requires { at + 8 ≤ length s.now }
     ensures { result ≡ be8 s.now at }
 {
-    let high = be32(s, at) as u64;
-    let low = be32(s, at + 4) as u64;
-    high * 4294967296 + low
+    u64::from_be_bytes(block(s, at))
 }
 
 // How many bytes an opaque of so many has with its pad. `next_multiple_of` compiles to three instructions more, and a walk over small records
