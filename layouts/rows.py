@@ -13,7 +13,9 @@ KEYWORDS = set('''alignas alignof auto bool break case catch char class const co
     sizeof static static_assert struct switch template this thread_local throw true try typedef typename typeof union unsigned using virtual void volatile
     while as crate dyn ensures fn ghost impl in let loop match mod move mut pub ref requires self super trait type unsafe use where'''.split())
 Field = namedtuple('Field', 'shape name seen meaning say')
-OWN = {'c', 's', 'at', 'mode', 'row', 'first', 'second', 'third', 'fourth', 'fields', 'outcome'}  # what readers call their own locals, and what stands before the fields in C
+# what readers call their own locals, and what stands before the fields in C; and what they called them before
+OWN = {'c', 's', 'at', 'mode', 'row', 'first', 'second', 'third', 'fourth', 'fields', 'outcome'}
+OWN |= {'p', 'r', 'd', 'passed', 'words', 'word', 'long', 'block', 'bytes', 'mac', 'address', 'text', 'list', 'path'}
 
 
 class Refused(Exception):

@@ -23,10 +23,17 @@ words_of (kind.Flows n) = n
 words_of (kind.Counters n) = n
 words_of kind.Raw = 1
 
+-- the words that stand behind all others before flow records
+abbrev pub eight_of : SampleKind → ℕ
+eight_of (kind.Flows n) = 8
+eight_of (kind.Counters n) = 0
+eight_of kind.Raw = 0
+
 pub record IsKind (r : SampleKind) (f : ℕ) : Type 0 where
   pub is : (mode : Mode) → opened (samples mode depth_limit) f ≡ held mode r
   pub some : 1 ≤ words_of r
   pub few : words_of r ≤ 11
+  pub eight : eight_of r ≤ words_of r
 
 -- the last of n words
 abbrev pub last_of : ℕ → Reader ℕ
