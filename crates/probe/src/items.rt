@@ -1,6 +1,6 @@
 // The items of `xdr` by their letters, and the line of each: its name, the vector's bytes and where the cursor starts; then what the item answers there.
 use crate::print;
-use printing::Hex;
+use printing::bytes::Hex;
 use std::io;
 use xdr::{Address, Cursor, Passed, Read, Span};
 

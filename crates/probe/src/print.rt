@@ -1,5 +1,5 @@
 // What the lines are made of.
-use printing::Hex;
+use printing::bytes::Hex;
 use std::io;
 use xdr::{Cursor, Outcome, Refusal};
 

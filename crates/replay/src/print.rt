@@ -4,7 +4,7 @@ ghost use Rattle.reading.specs.Sizes.{descriptor_words};
 
 use datagram::decode::{Answer, Decoded};
 use fields::descriptor::Words;
-use printing::Hex;
+use printing::bytes::Hex;
 use std::io;
 use store::DESCRIPTOR_WORDS;
 

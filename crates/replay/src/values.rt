@@ -1,7 +1,7 @@
 // How the fields of a descriptor are printed: the outcome of their reading, and each value behind a space.
 use layout::record::Reading;
 use numbers::{DataSource, Interface};
-use printing::Hex;
+use printing::bytes::Hex;
 use samples::kinds::{DataSourceExpanded, InterfaceExpanded};
 use std::io;
 use xdr::{Address, Outcome, Span};

@@ -74,7 +74,7 @@ module _ (s : List ℕ) (at : ℕ) where
       go again false t = rw (high_byte (get_or s (at + i) 0) (omega (arith, leb-false (get_or s (at + i) 0) 0x7f t)) b, plain_at i (omega arith), t, leb-suc-zero) (ne_eqb (rest * 256 + 128) 0 (λ z. omega arith))
 
   -- n bytes as one number, tested at once
-  all_plain : (n : ℕ) {m v : ℕ} → (v ≡ number n s at 0) × Bytes n s at 0 → m ≡ n → at + m ≤ length s → eqb (bit_and v (highs n)) 0 ≡ leb m (plain (drop at s))
+  pub all_plain : (n : ℕ) {m v : ℕ} → (v ≡ number n s at 0) × Bytes n s at 0 → m ≡ n → at + m ≤ length s → eqb (bit_and v (highs n)) 0 ≡ leb m (plain (drop at s))
   all_plain n (e, b) z h = let y : at + 0 ≡ at = omega arith in rw (e, z) (none_high n 0 b (omega arith) ∙ ap (λ (j : ℕ). leb n (plain (drop j s))) y)
 
 -- the last k bytes hold the rest, where at most k are left

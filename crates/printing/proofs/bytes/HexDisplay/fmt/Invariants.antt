@@ -2,7 +2,7 @@
 use Rattle.std.proofs.Common.{take}
 use Rattle.std.specs.Fmt.{HasWritten, IsPlainFormatter}
 use Rattle.printing.specs.Hexadecimal.{hex_text}
-use Rattle.printing.proofs.HexDisplay.fmt.Given as goal
+use Rattle.printing.proofs.bytes.HexDisplay.fmt.Given as goal
 
 abbrev pub invariant-loop-b : goal.invariant-loop-b
 invariant-loop-b g l =

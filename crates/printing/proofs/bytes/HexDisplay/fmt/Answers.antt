@@ -3,7 +3,7 @@ use Rattle.std.proofs.Common.{◌<◌, rules, get_or}
 use Rattle.std.proofs.Output.{has_written_append, has_written_of_eq}
 use Rattle.std.specs.Fmt.{HasWritten}
 use Rattle.printing.proofs.Digits.{written, hex_text-more}
-use Rattle.printing.proofs.HexDisplay.fmt.Goals as goal
+use Rattle.printing.proofs.bytes.HexDisplay.fmt.Goals as goal
 
 pub loop-b-preserved : goal.loop-b-preserved
 loop-b-preserved g c =
