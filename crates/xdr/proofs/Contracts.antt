@@ -6,7 +6,7 @@ use Rattle.reading.specs.Script.{number, integer, octets, word, long, int, opaqu
 use Rattle.reading.specs.Cursor.{fixed, read_item, times, follow}
 use Rattle.reading.specs.Layout.{addr, any_word}
 use Rattle.reading.proofs.Fields.{field_out}
-use Rattle.xdr.specs.Shown.{a_part, accepted, an_address, behind, code_of, ill_formed_of, passed_of, passed_out, place, read_out, refused, resumed}
+use Rattle.xdr.specs.Shown.{a_part, accepted, an_address, behind, code_of, ended, ended_by, ill_formed_of, passed_of, passed_out, place, read_out, refused, resumed}
 use Rattle.xdr.proofs.Settles.{Settles, settled}
 use Rattle.xdr.proofs.Lossless.{address_read_lossless, block_lossless, int_lossless, part_read_lossless, passed_lossless, word_lossless}
 use Rattle.xdr.proofs as call
@@ -38,6 +38,9 @@ module _ (κs self s : _) where
   pub read_words_settled : (n : _) → Settles (call.Cursor.read_words.Reads.Learnt κs (self, (s, (n, tt)))) (λ r. passed_out r nothing) (times n (follow any_word) s.now (place self))
   read_words_settled n = settled passed_lossless
 
+pub pass_fixed_settled : (n fits κs self s : _) → Settles (call.Cursor.pass_fixed.Reads.Learnt n fits κs (self, (s, tt))) (λ r. passed_out r nothing) (fixed n nothing s.now (place self))
+pass_fixed_settled n fits κs self s = settled passed_lossless
+
 pub read_fixed_settled : (n fits κs self s : _) → Settles (call.Cursor.read_fixed.Reads.Learnt n fits κs (self, (s, tt))) (read_out octets) (fixed n (octets (take n (drop self.at s.now))) s.now (place self))
 read_fixed_settled n fits κs self s = settled block_lossless
 
@@ -50,6 +53,9 @@ module _ (κs self : _) where
   pub ill_formed_settled : (at r e : _) → call.Cursor.ill_formed.Reads.Learnt κs (self, (at, tt)) r e → r ≡ ill_formed_of at self
   ill_formed_settled at r e h = h
 
+  pub ended_by_settled : (code r e : _) → call.Cursor.ended_by.Reads.Learnt κs (self, (code, tt)) r e → r ≡ ended_by code self
+  ended_by_settled code r e h = h
+
   pub accepted_settled : (r e : _) → call.Cursor.accepted.Reads.Learnt κs (self, tt) r e → r ≡ accepted self
   accepted_settled r e h = h
 
@@ -61,6 +67,9 @@ module _ (κs self : _) where
 
 pub code_settled : (κs self r e : _) → call.Reason.code.Reads.Learnt κs (self, tt) r e → r ≡ code_of self
 code_settled κs self r e h = h
+
+pub from_settled : (κs x r e : _) → call.OutcomeFromRefusal.from.Reads.Learnt κs (x, tt) r e → r ≡ ended x
+from_settled κs x r e h = h
 
 pub passed_settled : (κs self r e : _) → call.Outcome.passed.Reads.Learnt κs (self, tt) r e → r ≡ passed_of self
 passed_settled κs self r e h = h

@@ -43,6 +43,10 @@ refused reason c = record { reason = reason; at = c.at; steps = c.steps }
 abbrev pub ill_formed_of : (at : ℕ) → Cursor → Refusal
 ill_formed_of at c = record { reason = IllFormed; at = at; steps = c.steps }
 
+-- a reading that ends here, in plain numbers
+abbrev pub ended_by : (code : ℕ) → Cursor → Outcome
+ended_by code c = record { code = code; at = c.at; steps = c.steps }
+
 abbrev pub accepted : Cursor → Outcome
 accepted c = record { code = 0; at = c.at; steps = c.steps }
 
@@ -99,6 +103,26 @@ abbrev pub read_on : List Field → List ℕ → Passed → Reading
 read_on l s (Ok c) = reading l s (place c)
 read_on l s (Err x) = valued l (refusal x)
 
+-- ---- behind an outcome in plain numbers, of any code
+
+abbrev pub ending : {A : Type 0} → Outcome → Out A
+ending o = stop o.code o.at o.steps
+
+-- what was read, as `shown` has it, and the place behind it; or the outcome
+abbrev pub after_out : {A B : Type 0} → (shown : A → B) → Result (A × Cursor) Outcome → Out B
+after_out shown (Ok r) = got (shown r.0) (place r.1)
+after_out shown (Err o) = ending o
+
+-- read on from p: an outcome is handed on
+abbrev pub after_on : {A : Type 0} → (Place → Out A) → Result Cursor Outcome → Out A
+after_on read (Ok c) = read (place c)
+after_on read (Err o) = ending o
+
+-- the layout l, read on from p: an outcome is handed on
+abbrev pub read_after : List Field → List ℕ → Result Cursor Outcome → Reading
+read_after l s (Ok c) = reading l s (place c)
+read_after l s (Err o) = valued l (ending o)
+
 -- an outcome with values beside it, as field reading answers them
 abbrev pub answer_of : Outcome → List Value → Fields
 answer_of o vs = record { code = o.code; at = o.at; steps = o.steps; values = vs }
@@ -106,3 +130,7 @@ answer_of o vs = record { code = o.code; at = o.at; steps = o.steps; values = vs
 -- the layout l, read on from p, answers so
 pub record Answers (l : List Field) (s : List ℕ) (p : Passed) (o : Outcome) (vs : List Value) : Type 0 where
   pub is : answer_of o vs ≡ answered (read_on l s p)
+
+-- the layout l, read on from an outcome p of any code, answers so
+pub record AnswersAfter (l : List Field) (s : List ℕ) (p : Result Cursor Outcome) (o : Outcome) (vs : List Value) : Type 0 where
+  pub is : answer_of o vs ≡ answered (read_after l s p)

@@ -2,7 +2,7 @@
 #![tactic(auto)]
 
 ghost use Rattle.std.specs.Prelude.{◌≡◌, ◌+◌, ◌^◌, ◌≤◌, ◌<◌};
-ghost use Rattle.xdr.specs.Shown.{accepted, behind, code_of, ended, ill_formed_of, passed_of, refused, resumed};
+ghost use Rattle.xdr.specs.Shown.{accepted, behind, code_of, ended, ended_by, ill_formed_of, passed_of, refused, resumed};
 
 mod addresses;
 mod blocks;
@@ -101,15 +101,22 @@ impl Cursor {
         }
     }
 
+    // A reading that ends at the cursor, in plain numbers: any code, also one that stands for no reason.
+    pub fn ended_by(self, code: u32) -> Outcome
+        ensures { result ≡ ended_by code self }
+    {
+        Outcome {
+            code,
+            at: self.at,
+            steps: self.steps,
+        }
+    }
+
     // All is read up to the cursor.
     pub fn accepted(self) -> Outcome
         ensures { result ≡ accepted self }
     {
-        Outcome {
-            code: 0,
-            at: self.at,
-            steps: self.steps,
-        }
+        self.ended_by(0)
     }
 
     // The cursor, with the steps of what was read inside of what ends here.
