@@ -32,3 +32,15 @@ module _ {sc : Script} {s : List ℕ} {n : ℕ} {pen : Pen} {at : ℕ} {l : List
           ready = rw y at (ready_next sc (n - i) s l' cur pen.base pen.parent to e h.ready (omega arith));
           same = rw y at (put_turn sc (n - i) s l' cur pen.base pen.parent to e h.ready (omega arith) h.same);
         }
+
+-- the same where the counter goes down: k are left
+module _ {sc : Script} {s : List ℕ} {n : ℕ} {pen : Pen} {at : ℕ} {l : List ℕ} {k cur to : ℕ} {l' : List ℕ} (h : Left sc s n pen at l (n - k) cur to l') (b : k ≤ n) where
+  pub back_done : k ≤ 0 → a_put cur to l' ≡ placed pen (times n (follow sc) s (from at)) l
+  back_done z = left_done h (omega (arith, b))
+
+  module _ (z : 0 < k) where
+    pub back_first : Ready s l' (a_pen pen.base pen.parent to) (follow sc s (from cur))
+    back_first = left_first h (omega (arith, b))
+
+    pub back_next : {a e : ℕ} {l'' : List ℕ} → a_put a e l'' ≡ placed (a_pen pen.base pen.parent to) (follow sc s (from cur)) l' → Left sc s n pen at l (n - (k - 1)) a e l''
+    back_next f = let y : n - k + 1 ≡ n - (k - 1) = omega (arith, b) in rw y at (left_next h (omega (arith, b)) f)

@@ -81,6 +81,8 @@ pub fn put_frame(s: &[u8], at: usize, kind: u32, depth: u32, store: &mut [u32], 
 {
     let length = load::be32(s, at + 4);
     let start = at + 8;
+    // Asked for before the descriptor is stored, so that it is at hand where the next frame is read.
+    let end = start + load::padded(length as usize);
     let word = pen.word;
     put(
         store,
@@ -96,7 +98,7 @@ pub fn put_frame(s: &[u8], at: usize, kind: u32, depth: u32, store: &mut [u32], 
         },
     );
     Written {
-        at: start + load::padded(length as usize),
+        at: end,
         word: word + DESCRIPTOR_WORDS,
     }
 }
