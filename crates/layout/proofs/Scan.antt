@@ -77,11 +77,15 @@ module _ (s : List ℕ) (c : Cursor) {r : Frame} {d : Cursor} (e : got (a_frame 
   pub frame_count : (k : ℕ) → Scan s c k → k + 1 ≤ length s
   frame_count k g = let y = lies in omega (arith, y.start, y.end, y.fits, g.few)
 
-  pub frame_scan : (k : ℕ) → Scan s c k → Scan (take (r.payload.start + r.payload.count) s) (first_of r d) (k + 1)
-  frame_scan k g =
+  -- in any part of the input that has the payload
+  pub frame_scan_in : (m : ℕ) → m ≤ length s → (k : ℕ) → r.payload.start + r.payload.count ≤ m → Scan s c k → Scan (take m s) (first_of r d) (k + 1)
+  frame_scan_in m i k j g =
       let y = lies in
-      let z = length-take-le (r.payload.start + r.payload.count) s frame_ends in
+      let z = length-take-le m s i in
       record { inside = omega arith; counted = omega (arith, y.start, y.steps, g.counted); few = omega (arith, y.start, g.few); short = omega (arith, g.short) }
+
+  pub frame_scan : (k : ℕ) → Scan s c k → Scan (take (r.payload.start + r.payload.count) s) (first_of r d) (k + 1)
+  frame_scan k g = frame_scan_in (r.payload.start + r.payload.count) frame_ends k (omega arith) g
 
 -- ---- what a frame holds, on top of its own descriptor
 module _ (kind depth : ℕ) (body : ℕ → Script) (s : List ℕ) (p : Place) (k : ℕ) {f : ℕ} {x : Span} {q : Place} (e : got (framing f x) q ≡ frame_at s p) where

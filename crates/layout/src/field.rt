@@ -47,8 +47,8 @@ pub fn six(c: Cursor, s: &[u8], mode: Mode) -> Read<[u8; 6]>
     ensures { read_out octets result ≡ field_out (ethernet (mode_of mode)) s.now (place c) }
 {
     let d = match mode {
-        Mode::Memo => c.skip(s, 8)?,
-        Mode::Base => c.skip(s, 6)?,
+        Mode::Memo => c.pass_fixed::<8>(s)?,
+        Mode::Base => c.pass_fixed::<6>(s)?,
     };
     Ok((load::block(s, c.at), d))
 }

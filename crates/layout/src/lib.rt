@@ -2,6 +2,7 @@
 // field by field (`field`, `lists`, `record`), or passed with nothing kept of it (`pass`).
 #![tactic(auto)]
 
+pub mod after;
 pub mod field;
 pub mod frames;
 pub mod lists;

@@ -45,9 +45,9 @@ impl Field {
         match self {
             Field::Words(n) => c.read_words(s, n),
             Field::Long => c.skip(s, 8),
-            Field::Mac => c.skip(s, 8),
-            Field::Six => c.skip(s, 6),
-            Field::Sixteen => c.skip(s, 16),
+            Field::Mac => c.pass_fixed::<8>(s),
+            Field::Six => c.pass_fixed::<6>(s),
+            Field::Sixteen => c.pass_fixed::<16>(s),
             Field::Protocol => behind(protocol(c, s)),
             Field::Address => behind(c.parse_address(s)),
             Field::Opaque => behind(c.read_opaque(s)),
