@@ -4,11 +4,12 @@ ghost use Rattle.reading.specs.Script.{nothing};
 ghost use Rattle.reading.specs.Layout.{size_of, total, widths};
 ghost use Rattle.reading.proofs.Fields.{fields_out};
 ghost use Rattle.reading.proofs.Widths.{numbers};
-ghost use Rattle.xdr.specs.Shown.{Inside, passed_out, place, read_out};
+ghost use Rattle.xdr.specs.Shown.{Inside, after_on, after_out, passed_out, place, read_out};
 ghost use Rattle.layout.specs.Passing.{passing};
 ghost use Rattle.counters.specs.Sizes.{size, sizes, sizes_of};
 
-use xdr::{Cursor, Passed, Read};
+use layout::after::ReadAfter;
+use xdr::{Cursor, Outcome, Passed, Read};
 
 // The width of a field: a word's, or a u64's.
 #[derive(Clone, Copy)]
@@ -115,4 +116,14 @@ pub fn read(c: Cursor, s: &[u8], format: u32) -> Read<usize>
 {
     let end = pass(c, s, format)?;
     Ok((c.at, end))
+}
+
+// The same behind a reading that ended in plain numbers, as C has them: its outcome, of any code, is handed on as it is.
+pub fn read_after(p: Result<Cursor, Outcome>, s: &[u8], format: u32) -> ReadAfter<usize>
+    requires { IfOk p (λ c. Inside s.now c) }
+    ensures numbers { after_out (numbers (sizes_of format) s.now) result ≡ after_on (fields_out (widths (sizes_of format)) s.now) p }
+    ensures has_bytes { IfOk result (λ r. r.0 + total (sizes_of format) ≤ length s.now) }
+{
+    let c = p?;
+    Ok(read(c, s, format)?)
 }
