@@ -8,7 +8,7 @@ use Rattle.xdr.specs.Shown.{span, answer_of}
 use Rattle.xdr.proofs.Settles.{Settles, settled}
 use Rattle.xdr.proofs.Lossless.{span_lossless}
 use Rattle.layout.specs.Shown.{a_segment, mode_of}
-use Rattle.fields.specs.Shown.{a_word, Asks, listed, read_at, unread}
+use Rattle.fields.specs.Shown.{a_word, Asks, listed, read_at, unread, unread_by}
 use Rattle.fields.proofs.Lossless.{listed_lossless, word_lossless, segment_lossless}
 use Rattle.fields.proofs as call
 
@@ -28,6 +28,9 @@ module _ (κs s : _) where
   pub list_word_settled : (list index : _) → Settles (call.lists.list_word.Reads.Learnt κs (s, (list, (index, tt)))) a_word (list_word_of s.now list.start list.count index)
   list_word_settled list index = settled word_lossless
 
+  pub word_of_settled : (list index : _) → Settles (call.lists.word_of.Reads.Learnt κs (s, (list, (index, tt)))) listed (list_word_of s.now list.start list.count index)
+  word_of_settled list index = settled listed_lossless
+
   pub next_segment_settled : (at : _) → Settles (call.lists.next_segment.Reads.Learnt κs (s, (at, tt))) (λ r. answer_of r.outcome (a_segment r.fields)) (segment_at s.now at)
   next_segment_settled at = settled segment_lossless
 
@@ -38,6 +41,9 @@ listed_settled κs word = settled listed_lossless
 
 pub unread_settled : (κs reason r e : _) → call.ask.unread.Reads.Learnt κs (reason, tt) r e → r ≡ unread reason
 unread_settled κs reason r e h = h
+
+pub unread_by_settled : (κs code r e : _) → call.ask.unread_by.Reads.Learnt κs (code, tt) r e → r ≡ unread_by code
+unread_by_settled κs code r e h = h
 
 pub ask_says : (κs s w kind format r e : _) → call.ask.ask.Reads.Learnt κs (s, (w, (kind, (format, tt)))) r e → Asks kind format s.now w.now r
 ask_says κs s w kind format r e h = h

@@ -7,6 +7,7 @@ use Rattle.reading.specs.Answer.{Fields, answered, layout_of, read, segment_fiel
 use Rattle.xdr.specs.declared.Cursor.{Cursor}
 use Rattle.xdr.specs.declared.Reason.{Reason}
 use Rattle.xdr.specs.declared.Refusal.{Refusal}
+use Rattle.xdr.specs.declared.Outcome.{Outcome}
 use Rattle.xdr.specs.Shown.{Inside, Passed, read_on}
 use Rattle.store.specs.declared.Descriptor.{Descriptor}
 use Rattle.fields.specs.declared.lists.Listed.{Listed}
@@ -27,6 +28,9 @@ read_at mode k f s w = read mode k f s (get_or w 0 0) (get_or w 1 0) (get_or w 2
 
 abbrev pub unread : Reason → Refusal
 unread reason = record { reason = reason; at = 0; steps = 0 }
+
+abbrev pub unread_by : (code : ℕ) → Outcome
+unread_by code = record { code = code; at = 0; steps = 0 }
 
 -- where to read from, and where the range ends; or a refusal
 abbrev pub Asked : Type 0

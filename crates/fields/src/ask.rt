@@ -3,12 +3,12 @@ ghost use Rattle.std.specs.Prelude.{◌≡◌, ℕ};
 ghost use Rattle.reading.specs.Answer.{layout_of};
 ghost use Rattle.xdr.specs.Shown.{answer_of};
 ghost use Rattle.layout.specs.Shown.{mode_of};
-ghost use Rattle.fields.specs.Shown.{Asks, read_at, unread};
+ghost use Rattle.fields.specs.Shown.{Asks, read_at, unread, unread_by};
 
 use crate::descriptor::{Words, descriptor};
 use layout::field::Mode;
 use layout::record::{Reading, Record};
-use xdr::{Cursor, MAX_INPUT_SIZE, Reason, Refusal};
+use xdr::{Cursor, MAX_INPUT_SIZE, Outcome, Reason, Refusal};
 
 // A refusal before the first item.
 pub fn unread(reason: Reason) -> Refusal
@@ -19,6 +19,14 @@ pub fn unread(reason: Reason) -> Refusal
         at: 0,
         steps: 0,
     }
+}
+
+// The same in plain numbers, as C has them: any code, also one that stands for no reason.
+pub fn unread_by(code: u32) -> Outcome
+    ensures { result ≡ unread_by code }
+{
+    let first = Cursor { at: 0, steps: 0 };
+    first.ended_by(code)
 }
 
 // Where to read from, and where the range ends. Kind and format are numbers, as in a descriptor that a host hands back.
@@ -52,6 +60,6 @@ pub fn read<T: Record>(s: &[u8], d: &Words, kind: u32, format: u32, mode: Mode) 
 {
     match ask(s, d, kind, format) {
         Ok((c, end)) => Reading::<T>::of(Ok(c), &s[..end], mode),
-        Err(x) => Reading::<T>::of(Err(x), s, mode),
+        Err(x) => Reading::<T>::refused(x),
     }
 }

@@ -34,7 +34,18 @@ impl From<Option<u32>> for Listed {
     }
 }
 
-// The word with this index of a list that was answered as start and count.
+// The word with this index of a list that was answered as start and count, as C has it: made at once, which takes less time than by an `Option`.
+#[tactic(auto, unfolding(reading::specs::Answer::list_word_of))]
+pub fn word_of(s: &[u8], list: Span, index: usize) -> Listed
+    ensures { listed result ≡ list_word_of s.now list.start list.count index }
+{
+    if s.len() < list.start || list.count <= index || (s.len() - list.start) / 4 <= index {
+        return None.into();
+    }
+    Some(load::be32(s, list.start + 4 * index)).into()
+}
+
+// The same for a caller in Rattle.
 #[tactic(auto, unfolding(reading::specs::Answer::list_word_of))]
 pub fn list_word(s: &[u8], list: Span, index: usize) -> Option<u32>
     ensures { a_word result ≡ list_word_of s.now list.start list.count index }

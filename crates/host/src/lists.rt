@@ -14,7 +14,7 @@ use xdr::Span;
 pub fn latchplume_list_word(s: &[u8], start: usize, count: usize, index: usize) -> Listed
     ensures { listed result ≡ list_word_of s.now start count index }
 {
-    lists::list_word(s, Span { start, count }, index).into()
+    lists::word_of(s, Span { start, count }, index)
 }
 
 pub fn latchplume_next_segment(s: &[u8], at: usize) -> Reading<Segment>
