@@ -16,14 +16,15 @@ use store::{Kind, Pen, Written, index_at, put_frame};
 // The levels that are left below a sample's own records.
 const LEVELS_BELOW: usize = MAX_DEPTH - 1;
 
-// n counter records in a row.
+// n counter records in a row. Here and in `put_samples` the counter goes down, since one number is then kept beside the frame, and not two, of which
+// one had what the next frame begins by go through memory.
 fn put_counter_records(s: &[u8], at: usize, n: u32, store: &mut [u32], pen: Pen) -> Written
     requires { Ready s.now store.old pen (times n (follow counter) s.now (from at)) }
     ensures { written result store.new ≡ placed pen (times n (follow counter) s.now (from at)) store.old }
 {
     let mut cur = at;
     let mut word = pen.word;
-    for _ in 0..n {
+    for _ in (0..n).rev() {
         let pen = Pen { word, ..pen };
         let w = put_frame(s, cur, Kind::CounterRecord as u32, 1, &mut *store, pen);
         cur = w.at;
@@ -118,7 +119,7 @@ pub fn put_samples(s: &[u8], at: usize, n: u32, store: &mut [u32], pen: Pen) -> 
 {
     let mut cur = at;
     let mut word = pen.word;
-    for _ in 0..n {
+    for _ in (0..n).rev() {
         let w = put_sample(s, cur, &mut *store, Pen { word, ..pen });
         cur = w.at;
         word = w.word;
