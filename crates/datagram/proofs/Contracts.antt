@@ -5,18 +5,21 @@
 use Rattle.std.proofs.Common.{ℕ, ◌≡◌, List}
 use denote.Ref.{at_last}
 use Rattle.reading.specs.Cursor.{follow}
-use Rattle.reading.specs.Layout.{base as base_mode, datagram, header}
+use Rattle.reading.specs.Script.{number}
+use Rattle.reading.specs.Layout.{memo, base as base_mode, datagram, header, version}
+use Rattle.reading.specs.Values.{zeros}
 use Rattle.reading.specs.Answer.{from, one, run}
 use Rattle.reading.proofs.Counts.{counted}
-use Rattle.reading.proofs.Fields.{fields_out}
-use Rattle.xdr.specs.Shown.{place, read_out}
+use Rattle.reading.proofs.Fields.{field_out, fields_out}
+use Rattle.xdr.specs.Shown.{code_of, place, read_out}
 use Rattle.xdr.proofs.Settles.{Settles, settled}
+use Rattle.xdr.proofs.Lossless.{word_lossless}
 use Rattle.layout.specs.Shown.{mode_of, scanned_out}
 use Rattle.store.specs.declared.Written.{Written}
 use Rattle.store.specs.Written.{written, placed}
 use Rattle.datagram.specs.declared.decode.Answer.{Answer}
 use Rattle.datagram.specs.declared.decode.Decoded.{Decoded}
-use Rattle.datagram.specs.Shown.{decoded, header_fields, ran, root}
+use Rattle.datagram.specs.Shown.{Heads, decoded, header_fields, ran, root}
 use Rattle.datagram.proofs.Lossless.{decoded_lossless, header_lossless, ran_lossless, scanned_lossless, written_lossless}
 use Rattle.datagram.proofs as call
 
@@ -37,6 +40,18 @@ module _ (κs s store mode : _) where
 
 pub read_settled : (κs c s mode : _) → Settles (call.header.HeaderRecord.read.Reads.Learnt κs (c, (s, (mode, tt)))) (read_out header_fields) (fields_out header s.now (place c))
 read_settled κs c s mode = settled header_lossless
+
+pub zero_settled : (κs r e : _) → call.header.HeaderRecord.zero.Reads.Learnt κs tt r e → header_fields r ≡ zeros header
+zero_settled κs r e h = h memo
+
+pub version_at_settled : (κs c s : _) → Settles (call.header.version_at.Reads.Learnt κs (c, (s, tt))) (read_out number) (field_out version s.now (place c))
+version_at_settled κs c s = settled word_lossless
+
+pub row_says : (κs c s r e : _) → call.header.row.Reads.Learnt κs (c, (s, tt)) r e → Heads s.now c r
+row_says κs c s r e h = h
+
+pub from_settled : (κs x r e : _) → call.decode.AnswerFromRefusal.from.Reads.Learnt κs (x, tt) r e → r ≡ record { code = code_of x.reason; at = x.at; steps = x.steps; needed = 0 }
+from_settled κs x r e h = h
 
 pub no_room_settled : (κs end needed r e : _) → call.decode.Answer.no_room.Reads.Learnt κs (end, (needed, tt)) r e → r ≡ record { code = 9; at = 0; steps = end.steps; needed = needed }
 no_room_settled κs end needed r e h = h

@@ -3,3 +3,4 @@ pub mod Running
 pub mod Deciding
 pub mod Lossless
 pub mod Contracts
+pub mod Heads

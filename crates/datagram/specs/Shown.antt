@@ -1,13 +1,15 @@
 -- What this crate's answers are in terms of the reading. Assumes nothing.
-use Rattle.std.specs.Prelude.{ℕ, ◌≡◌, List, [], ◌∷◌}
+use Rattle.std.specs.Prelude.{ℕ, ◌+◌, ◌≤◌, ◌≡◌, List, [], ◌∷◌, length, IfOk}
 use Rattle.reading.specs.Script.{Value, number, Found}
-use Rattle.reading.specs.Cursor.{Out, got, stop, follow}
-use Rattle.reading.specs.Layout.{base as base_mode, datagram}
+use Rattle.reading.specs.Cursor.{Out, Reader, got, stop, then, follow}
+use Rattle.reading.specs.Layout.{base as base_mode, datagram, version, addr, words}
 use Rattle.reading.specs.Answer as answer
 use Rattle.reading.specs.Answer.{from, nobody, header_of, no_header, refused}
 use Rattle.reading.proofs.Counts.{counted}
+use Rattle.reading.proofs.Fields.{fields_out}
 use Rattle.xdr.specs.declared.Cursor.{Cursor}
-use Rattle.xdr.specs.Shown.{place, an_address}
+use Rattle.reading.proofs.Words.{numbers}
+use Rattle.xdr.specs.Shown.{Read, an_address, place, read_out}
 use Rattle.store.specs.declared.Pen.{Pen}
 use Rattle.datagram.specs.declared.decode.Answer.{Answer}
 use Rattle.datagram.specs.declared.decode.Decoded.{Decoded}
@@ -17,6 +19,15 @@ abbrev pub header_fields : Header → List Value
 header_fields r =
     number r.version ∷ an_address r.agent_address ∷ number r.sub_agent_id ∷ number r.sequence_number ∷ number r.uptime
     ∷ number r.num_samples ∷ []
+
+-- the header, passed, and then the values of its four words
+abbrev pub heads : Reader (List Value)
+heads s p = then (fields_out (version ∷ addr ∷ []) s p) (λ vs q. fields_out (words 4) s q)
+
+-- the header is passed so, and its words lie in the input where it was
+pub record Heads (s : List ℕ) (c : Cursor) (r : Read ℕ) : Type 0 where
+  pub words : read_out (numbers 4 s) r ≡ heads s (place c)
+  pub there : IfOk r (λ x. x.0 + 16 ≤ length s)
 
 -- where a datagram's own descriptor goes: it has no parent
 abbrev pub root : ℕ → Pen

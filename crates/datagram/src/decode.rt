@@ -107,7 +107,8 @@ impl Decoded {
 pub fn decode(s: &[u8], store: &mut [u32], mode: Mode) -> Decoded
     ensures { decoded result store.new ≡ one (mode_of mode) s.now store.old }
 {
-    if MAX_INPUT_SIZE < s.len() {
+    let too_long = MAX_INPUT_SIZE < s.len();
+    if too_long {
         return Decoded::refused(START.refusal(Reason::InputTooLong).into());
     }
     match scan_datagram(s, START, mode, 0) {

@@ -4,7 +4,7 @@ ghost use Rattle.reading.specs.Script.{number};
 ghost use Rattle.reading.specs.Layout.{header, version};
 ghost use Rattle.reading.proofs.Fields.{field_out};
 ghost use Rattle.xdr.specs.Shown.{Inside, place, read_out};
-ghost use Rattle.datagram.specs.Shown.{header_fields};
+ghost use Rattle.datagram.specs.Shown.{header_fields, Heads};
 
 use layout::field;
 use layout::field::Mode;
@@ -25,7 +25,7 @@ pub struct Header {
 
 // The version, which is 5.
 #[tactic(auto, unfolding(reading::specs::Cursor::fixed, reading::specs::Cursor::read_item, reading::proofs::Fields::field_out))]
-fn read_version(c: Cursor, s: &[u8]) -> Read<u32>
+pub fn version_at(c: Cursor, s: &[u8]) -> Read<u32>
     requires { Inside s.now c }
     ensures { read_out number result ≡ field_out version s.now (place c) }
 {
@@ -34,6 +34,17 @@ fn read_version(c: Cursor, s: &[u8]) -> Read<u32>
         return Err(c.refusal(Reason::Version));
     }
     Ok((version, d))
+}
+
+// The header, passed; and where its four words begin.
+pub fn row(c: Cursor, s: &[u8]) -> Read<usize>
+    requires { Inside s.now c }
+    ensures { Heads s.now c result }
+{
+    let (_, c) = version_at(c, s)?;
+    let (_, c) = c.parse_address(s)?;
+    let end = c.read_words(s, 4)?;
+    Ok((c.at, end))
 }
 
 impl Record for Header {
@@ -48,7 +59,7 @@ impl Record for Header {
     #[inline(always)]
     #[tactic(auto, unfolding(reading::specs::Cursor::fixed, reading::specs::Cursor::read_item, reading::proofs::Fields::field_out, reading::proofs::Fields::fields_out))]
     fn read(c: Cursor, s: &[u8], _mode: Mode) -> Read<Header> {
-        let (version, c) = read_version(c, s)?;
+        let (version, c) = version_at(c, s)?;
         let (agent_address, c) = c.parse_address(s)?;
         let ([sub_agent_id, sequence_number, uptime, num_samples], c) = field::words::<4>(c, s)?;
         let header = Header {
